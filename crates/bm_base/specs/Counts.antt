@@ -1,0 +1,24 @@
+-- Counts of faults, one for each name.
+use Rattle.std.specs.Prelude.{◌≡◌, ◌≢◌, ◌≤◌, ℕ, ◌+◌, ◌-◌, ◌^◌, min, List, unwrap_or}
+use Rattle.std.specs.Ordering.{nat_cmp}
+use Rattle.std.specs.Cmp.Lexicographic.{slice_cmp}
+use Rattle.std.specs.FinMap.{FinMap, get}
+
+-- A name that is not in it has the count 0.
+abbrev pub FaultCounts : Type 0
+FaultCounts = FinMap (slice_cmp nat_cmp) ℕ
+
+abbrev pub count_of : FaultCounts → List ℕ → ℕ
+count_of counts name = unwrap_or (get counts name) 0
+
+-- A count that stands at its type's end stays there, and is taken as risen.
+abbrev pub Rose : ℕ → ℕ → Type 0
+Rose before now = min (before + 1) (2 ^ 64 - 1) ≤ now
+
+-- No count falls, and only this name's may rise.
+pub record RisesOnlyAt (name : List ℕ) (old new : FaultCounts) : Type 0 where
+  pub grows : count_of old name ≤ count_of new name
+  pub others : (q : List ℕ) → q ≢ name → count_of new q ≡ count_of old q
+
+abbrev pub SameCounts : FaultCounts → FaultCounts → Type 0
+SameCounts old new = (q : List ℕ) → count_of new q ≡ count_of old q

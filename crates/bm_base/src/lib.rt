@@ -1,0 +1,21 @@
+//! The outside as Butramin sees it: named bytes on a shelf, a sink for printed lines, their faults, and the
+//! plain values that every other crate speaks of.
+#![tactic(auto)]
+
+mod bits;
+mod fault;
+mod name;
+mod range;
+mod shelf;
+mod sink;
+mod size;
+mod status;
+
+pub use bits::Bits;
+pub use fault::{Fault, NoMemory};
+pub use name::Name;
+pub use range::Range;
+pub use shelf::Shelf;
+pub use sink::Sink;
+pub use size::Size;
+pub use status::Status;
