@@ -1,0 +1,19 @@
+//! The syntax tree of a netlist: structural Verilog of IEEE 1364-2005, in the profile that the documents give.
+//!
+//! Each `at` is the byte offset, from 0, of the first token of its part. Lists are `Items` and children `Boxed`, so that
+//! contracts see a tree as plain data and can compare it with what a definition computes.
+#![tactic(auto)]
+
+mod design;
+mod expr;
+mod item;
+mod key;
+mod left;
+mod stmt;
+
+pub use design::{Design, Module};
+pub use expr::{BinOp, Expr, UnOp};
+pub use item::{Dir, GateKind, Item, Link, NetKind};
+pub use key::Key;
+pub use left::Left;
+pub use stmt::Stmt;
