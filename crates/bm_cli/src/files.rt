@@ -1,0 +1,52 @@
+// Whole files over a shelf.
+ghost use Rattle.std.specs.Prelude.{◌≡◌, ◌⊎◌, ◌<◌, ◌≤◌, length, IfOk, IfSome, IsErrOf, OnOk, OnErr};
+ghost use Rattle.std.specs.Option.{option_map};
+ghost use Rattle.bm_base.specs.Counts.{count_of, Rose, RisesOnlyAt, SameCounts};
+ghost use Rattle.bm_base.specs.Held.{bytes_under};
+ghost use Rattle.bm_cli.specs.Files.{IsWithin, Fills};
+
+use bm_base::{Fault, Shelf};
+use std::alloc::Global;
+
+/// The bytes of a file of at most `limit` bytes. None where it is longer.
+pub fn read_file<F: Shelf>(
+    alloc: Global,
+    shelf: &mut F,
+    name: &str,
+    limit: u64,
+) -> Result<Option<Vec<u8>>, Fault>
+    ensures bytes { IfOk result (λ found. IfSome (F.held shelf.old) (λ held. IsWithin limit (bytes_under held name.now) found)) }
+    ensures held { F.held shelf.new ≡ F.held shelf.old }
+    ensures cause { IsErrOf result Fault.Failed → Rose (count_of (F.reads shelf.old) name.now) (count_of (F.reads shelf.new) name.now) }
+    ensures reads { RisesOnlyAt name.now (F.reads shelf.old) (F.reads shelf.new) }
+    ensures writes { SameCounts (F.writes shelf.old) (F.writes shelf.new) }
+{
+    let len = shelf.len(name)?;
+    if len > limit {
+        return Ok(None);
+    }
+    let mut bytes = vec![in alloc; 0; len as usize]?;
+    let count = fill(shelf, name, &mut bytes)?;
+    bytes.truncate(count);
+    Ok(Some(bytes))
+}
+
+// Reads the file's front into the buffer until that is full or the file ends, and says how many bytes it read.
+fn fill<F: Shelf>(shelf: &mut F, name: &str, buffer: &mut [u8]) -> Result<usize, Fault>
+    ensures bytes { IfOk result (λ count. IfSome (F.held shelf.old) (λ held. Fills (bytes_under held name.now) count buffer.new)) }
+    ensures within { IfOk result (λ count. count ≤ length buffer.new) }
+    ensures held { F.held shelf.new ≡ F.held shelf.old }
+    ensures cause { IsErrOf result Fault.Failed → Rose (count_of (F.reads shelf.old) name.now) (count_of (F.reads shelf.new) name.now) }
+    ensures reads { RisesOnlyAt name.now (F.reads shelf.old) (F.reads shelf.new) }
+    ensures writes { SameCounts (F.writes shelf.old) (F.writes shelf.new) }
+{
+    let mut at = 0;
+    while at < buffer.len() {
+        let count = shelf.read_at(name, at as u64, &mut buffer[at..])?;
+        if count == 0 {
+            break;
+        }
+        at += count;
+    }
+    Ok(at)
+}

@@ -1,0 +1,5 @@
+//! The top call: the commands of `butramin` over any shelf and any sink.
+#![tactic(auto)]
+
+mod files;
+mod words;
