@@ -1,0 +1,12 @@
+//! The words of the netlist language (IEEE 1364-2005, clauses 3.2 and 3.7, annex B): which texts are words, which of them
+//! are reserved, and which bytes are white space.
+#![tactic(auto)]
+
+mod reserved;
+mod word;
+
+pub use reserved::{OUTSIDE_WORDS, PROFILE_WORDS, is_reserved};
+pub use word::{is_space, is_word};
+
+#[cfg(test)]
+mod tests;
