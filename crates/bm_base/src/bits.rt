@@ -1,13 +1,19 @@
-ghost use Rattle.std.specs.Prelude.{◌≡◌, ◌<◌, ◌↔◌, IsTrue, IfOk, false, length, replicate, slice_get, slice_set, Some};
+ghost use Rattle.std.specs.Prelude.{◌≡◌, ℕ, ◌<◌, ◌↔◌, IsTrue, IfOk, false, length, replicate, slice_get, slice_set, Some};
+ghost use Rattle.bm_base.specs.Bits.{bit_of, value_at, ReplacesBit};
 
 use crate::NoMemory;
 use std::alloc::{AllocError, Global};
 use std::marker::Model;
 
-/// A row of truth values, seen by contracts as their list.
+/// How many values a word holds.
+const WORD_BITS: usize = 64;
+
+/// A row of truth values, seen by contracts as their list and packed in words.
 #[derive(Debug, Drop)]
 pub struct Bits {
-    values: Vec<bool>,
+    // Value `i` is bit `i % 64` of word `i / 64`, bit 0 being the lowest. The unused bits are 0.
+    words: Vec<u64>,
+    len: usize,
 }
 
 impl Model for Bits {
@@ -15,7 +21,11 @@ impl Model for Bits {
 
     ghost Value = { List Bool };
 
-    ghost view = { λ bits. bits.values.items };
+    ghost use Rattle.bm_base.specs.Bits.{values, IsPacked};
+
+    ghost view = { λ bits. values bits.words.items bits.len };
+
+    ghost invariant = { λ bits. IsPacked bits.words.items bits.len };
 }
 
 impl Bits {
@@ -23,15 +33,15 @@ impl Bits {
     pub fn zeros(alloc: Global, len: usize) -> Result<Bits, NoMemory>
         ensures { IfOk result (λ bits. bits ≡ replicate len false) }
     {
-        let values = vec![in alloc; false; len]?;
-        Ok(Bits { values })
+        let words = vec![in alloc; 0; len.div_ceil(WORD_BITS)]?;
+        Ok(Bits { words, len })
     }
 
     /// How many values there are.
     pub fn len(&self) -> usize
         ensures { result ≡ length self.now }
     {
-        self.values.len()
+        self.len
     }
 
     /// The value at a place, from 0.
@@ -39,7 +49,7 @@ impl Bits {
         requires { i < length self.now }
         ensures { slice_get self.now i ≡ Some result }
     {
-        self.values[i]
+        bit(self.words[i / WORD_BITS], i % WORD_BITS)
     }
 
     /// Replaces the value at a place, from 0.
@@ -47,14 +57,15 @@ impl Bits {
         requires { i < length self.old }
         ensures { self.new ≡ slice_set self.old i v }
     {
-        self.values[i] = v;
+        let at = i / WORD_BITS;
+        self.words[at] = with_bit(self.words[at], i % WORD_BITS, v);
     }
 
     /// Whether both rows have the same values.
     pub fn same(&self, other: &Bits) -> bool
         ensures { IsTrue result ↔ (self.now ≡ other.now) }
     {
-        self.values.as_slice() == other.values.as_slice()
+        self.len == other.len && same_bits(&self.words, &other.words)
     }
 }
 
@@ -62,7 +73,84 @@ impl Clone for Bits {
     ghost is_clone = { λ bits copy. copy ≡ bits };
 
     fn clone(&self) -> Result<Bits, AllocError> {
-        let values = self.values.clone()?;
-        Ok(Bits { values })
+        let words = self.words.clone()?;
+        Ok(Bits {
+            words,
+            len: self.len,
+        })
+    }
+}
+
+/// Bit `i` of the word.
+fn bit(word: u64, i: usize) -> bool
+    requires { i < 64 }
+    ensures { result ≡ bit_of word i }
+{
+    word >> i & 1 == 1
+}
+
+/// The word with bit `i` replaced.
+fn with_bit(word: u64, i: usize, v: bool) -> u64
+    requires { i < 64 }
+    ensures { ReplacesBit word result i v }
+{
+    let mask = 1 << i;
+    if v { word | mask } else { word & !mask }
+}
+
+/// Whether as many words have the same bits.
+fn same_bits(left: &[u64], right: &[u64]) -> bool
+    requires { length left.now ≡ length right.now }
+    ensures { IsTrue result ↔ ((i : ℕ) → value_at left.now i ≡ value_at right.now i) }
+{
+    *left == *right
+}
+
+#[cfg(test)]
+mod tests {
+    use super::*;
+    use std::test::Fail;
+
+    // The values that are set, at lengths around a word's end.
+    const CASES: [(usize, &[usize]); 6] = [
+        (0, &[]),
+        (1, &[0]),
+        (63, &[0, 62]),
+        (64, &[1, 63]),
+        (65, &[0, 63, 64]),
+        (130, &[5, 63, 64, 69, 127, 129]),
+    ];
+
+    #[test]
+    fn rows_hold_what_was_set(rt: HostRuntime) -> Result<(), Fail> {
+        for (len, places) in CASES {
+            let zeros = Bits::zeros(rt.alloc(), len)?;
+            let row = replaced(zeros.clone()?, places, true);
+            assert!(rt; zeros.len() == len && row.len() == len, "{len}");
+            assert!(rt; holds(&zeros, &[]) && holds(&row, places), "{len}");
+
+            let copy = row.clone()?;
+            assert!(rt; copy.same(&row), "{len}");
+            assert!(rt; replaced(copy, places, false).same(&zeros), "{len}");
+            assert_eq!(rt; row.same(&zeros), places.is_empty(), "{len}");
+
+            let longer = Bits::zeros(rt.alloc(), len + 1)?;
+            assert!(rt; !zeros.same(&longer) && !longer.same(&zeros), "{len}");
+        }
+        Ok(())
+    }
+
+    fn replaced(mut row: Bits, places: &[usize], v: bool) -> Bits {
+        for place in places {
+            if *place < row.len() {
+                row.set(*place, v);
+            }
+        }
+        row
+    }
+
+    // Whether these values and no others are true.
+    fn holds(row: &Bits, places: &[usize]) -> bool {
+        (0..row.len()).all(|i| row.get(i) == places.contains(&i))
     }
 }

@@ -1,12 +1,17 @@
-use Rattle.std.proofs.Common.{◌≡◌, arith, ◌∙◌}
-use Rattle.std.specs.Bool.{Decides}
-use Rattle.std.specs.Cmp.{booleans_Decides}
-use Rattle.std.proofs.lemmas.Slice.Eq.{slice_eq-Decides}
+use Rattle.std.proofs.Common.{eqb-true, sym, ◌∙◌}
+use Rattle.bm_base.proofs.BitsLemmas.{length_from_values, same_values, same_bits_from_values}
 use Rattle.bm_base.proofs.bits.Bits.same.Goals as goal
 
-pub returns : goal.returns
-returns c =
-    let left : c.as_slice.result.now ≡ c.args.self.now = c.as_slice.ensures.value ∙ c.self.view_is in
-    let right : c.as_slice-2.result.now ≡ c.args.other.now = c.as_slice-2.ensures.value ∙ c.other.view_is in
-    let decided : Decides c.eq.result (c.as_slice.result.now ≡ c.as_slice-2.result.now) = slice_eq-Decides booleans_Decides _ _ _ c.eq.ensures in
-    (λ h. grind (arith, left, right, decided.0 h), λ h. grind (arith, left, right, decided.1))
+pub returns-then-self-other : goal.returns-then-self-other
+returns-then-self-other c =
+    let left = c.deref.ensures.value in
+    let right = c.deref-then-self-other.ensures.value in (
+      λ h. sym c.self.view_is ∙ same_values _ _ _ _ c.if-self-other.true (rw (left, right) at c.same_bits.ensures.0 h) ∙ c.other.view_is,
+      λ same. c.same_bits.ensures.1 (rw (left, right) (same_bits_from_values _ _ _ _ c.self.invariant c.other.invariant (c.self.view_is ∙ same ∙ sym c.other.view_is))),
+    )
+
+pub returns-else-self-other : goal.returns-else-self-other
+returns-else-self-other c = (
+  λ h. absurd (c.if-self-other.false (eqb-true _ _ h)),
+  λ same. absurd (c.if-self-other.false (length_from_values _ _ _ (c.self.view_is ∙ same) ∙ sym (length_from_values _ _ _ c.other.view_is))),
+)
