@@ -2,4 +2,6 @@
 #![tactic(auto)]
 
 mod files;
+mod form;
+mod netlist;
 mod words;

@@ -6,7 +6,7 @@ mod reserved;
 mod word;
 
 pub use reserved::{OUTSIDE_WORDS, PROFILE_WORDS, is_reserved};
-pub use word::{is_space, is_word};
+pub use word::{is_space, is_word, is_word_byte, is_word_start};
 
 #[cfg(test)]
 mod tests;

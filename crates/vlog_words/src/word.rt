@@ -8,7 +8,7 @@ pub fn is_word(text: &[u8]) -> bool
     ensures meaning { IsTrue result ↔ IsWord text.now }
 {
     match text {
-        [first, rest @ ..] => is_start(*first) && are_parts(rest),
+        [first, rest @ ..] => is_word_start(*first) && are_parts(rest),
         [] => false,
     }
 }
@@ -20,7 +20,8 @@ pub fn is_space(byte: u8) -> bool
     matches!(byte, b' ' | b'\t' | b'\n' | 0x0c | b'\r')
 }
 
-fn is_start(byte: u8) -> bool
+/// Whether a word may start with the byte: a letter or `_`.
+pub fn is_word_start(byte: u8) -> bool
     ensures { result ≡ is_word_start byte }
 {
     byte.is_ascii_alphabetic() || byte == b'_'
@@ -29,10 +30,11 @@ fn is_start(byte: u8) -> bool
 fn are_parts(bytes: &[u8]) -> bool
     ensures { result ≡ list_all is_word_byte bytes.now }
 {
-    bytes.iter().all(|byte| is_part(*byte))
+    bytes.iter().all(|byte| is_word_byte(*byte))
 }
 
-fn is_part(byte: u8) -> bool
+/// Whether the byte may stand in a word: a letter, a digit, `_` or `$`.
+pub fn is_word_byte(byte: u8) -> bool
     ensures { result ≡ is_word_byte byte }
 {
     byte.is_ascii_alphanumeric() || byte == b'_' || byte == b'$'
