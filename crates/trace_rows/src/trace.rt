@@ -1,4 +1,5 @@
-ghost use Rattle.std.specs.Prelude.{◌≡◌, ◌+◌, ◌*◌, ◌^◌, ◌<◌, ◌≤◌, length, slice_get, Some, IsTrue, OnOk, OnErr};
+ghost use Rattle.std.specs.Prelude.{◌≡◌, ◌+◌, ◌*◌, ◌^◌, ◌<◌, ◌≤◌, ◌↔◌, All, length, slice_get, Some, IsTrue, OnOk, OnErr};
+ghost use Rattle.trace_rows.specs.Events.{change_count};
 
 use bm_base::{Bits, NoMemory};
 use std::alloc::Global;
@@ -23,6 +24,7 @@ impl Model for Trace {
 }
 
 impl Trace {
+    ghost use Rattle.trace_rows.specs.Events.{event_count};
     ghost use Rattle.trace_rows.specs.Rows.{Rows, no_rows, with_row, first_rows, bit_of};
 
     /// A trace of no rows, whose rows are to have this many bits.
@@ -35,7 +37,7 @@ impl Trace {
         }
     }
 
-    /// Adds a copy of the row at the end.
+    /// Adds a copy of the row at the end. A trace whose bits would be 2^64 or more answers want of memory.
     pub fn push(&mut self, row: &Bits) -> Result<(), NoMemory>
         requires { length row.now ≡ self.old.width }
         ensures ok { OnOk result (self.new ≡ with_row self.old row.now) }
@@ -51,14 +53,16 @@ impl Trace {
 
     /// How many rows there are.
     pub fn len(&self) -> usize
-        ensures { result ≡ length self.now.rows }
+        ensures len { result ≡ length self.now.rows }
+        ensures bits { length self.now.rows * self.now.width < 2 ^ 64 }
     {
         self.rows.len()
     }
 
     /// How many bits a row has.
     pub fn width(&self) -> usize
-        ensures { result ≡ self.now.width }
+        ensures width { result ≡ self.now.width }
+        ensures rows { All (λ row. length row ≡ self.now.width) self.now.rows }
     {
         self.width
     }
@@ -88,12 +92,43 @@ impl Trace {
     {
         self.rows.truncate(n);
     }
+
+    /// How many bits change from one row to the next, where the first row follows `base`.
+    pub fn events(&self, base: &Bits) -> u64
+        requires { length base.now ≡ self.now.width }
+        ensures { result ≡ event_count base.now self.now.rows }
+    {
+        let mut count = 0;
+        let mut before = base;
+        for row in &self.rows {
+            count += changes(before, row);
+            before = row;
+        }
+        count
+    }
+}
+
+// In how many bits two rows of one width differ.
+fn changes(before: &Bits, after: &Bits) -> u64
+    requires { length after.now ≡ length before.now }
+    ensures { result ≡ change_count before.now after.now (length before.now) }
+{
+    let mut count = 0;
+    for b in 0..before.len() {
+        if before.get(b) != after.get(b) {
+            count += 1;
+        }
+    }
+    count
 }
 
 // Whether the bits of one row more can still be counted.
 fn fits(rows: usize, width: usize) -> bool
     requires { rows + 1 < 2 ^ 64 }
-    ensures { IsTrue result → (rows + 1) * width < 2 ^ 64 }
+    ensures { IsTrue result ↔ ((rows + 1) * width < 2 ^ 64) }
 {
     (rows + 1).checked_mul(width).is_some()
 }
+
+#[cfg(test)]
+mod tests;

@@ -1,0 +1,51 @@
+ghost use Rattle.std.specs.Prelude.{◌≡◌, ◌≤◌, length, IfOk};
+
+use super::*;
+use std::test::Fail;
+
+// The bits of a number, the lowest of which is bit 0.
+fn row(alloc: Global, width: usize, number: u8) -> Result<Bits, NoMemory>
+    requires { width ≤ 8 }
+    ensures { IfOk result (λ row. length row ≡ width) }
+{
+    let mut row = Bits::zeros(alloc, width)?;
+    for b in 0..width {
+        row.set(b, number >> b & 1 == 1);
+    }
+    Ok(row)
+}
+
+fn trace(alloc: Global, width: usize, rows: &[u8]) -> Result<Trace, NoMemory>
+    requires { width ≤ 8 }
+    ensures { IfOk result (λ trace. trace.width ≡ width) }
+{
+    let mut trace = Trace::new(alloc, width);
+    for number in rows {
+        trace.push(&row(alloc, width, *number)?)?;
+    }
+    Ok(trace)
+}
+
+#[test]
+fn counts_the_changes_from_row_to_row(rt: HostRuntime) -> Result<(), Fail> {
+    let alloc = rt.alloc();
+    for (width, base, rows, events, events_of_four) in [
+        (1, 0b0, [0b1, 0b0, 0b1, 0b1, 0b0], 4, 3),
+        (2, 0b01, [0b11, 0b10, 0b01, 0b01, 0b00], 5, 4),
+    ] {
+        assert!(rt; width <= 8);
+        let base = row(alloc, width, base)?;
+        let mut trace = trace(alloc, width, &rows)?;
+        assert_eq!(rt; trace.width(), width);
+        assert_eq!(rt; trace.len(), 5);
+        for (t, number) in rows.iter().enumerate() {
+            assert!(rt; trace.row(t).same(&row(alloc, width, *number)?), "row {t}");
+            assert_eq!(rt; trace.bit(t, 0), number & 1 == 1, "row {t}");
+        }
+        assert_eq!(rt; trace.events(&base), events);
+        trace.keep(4);
+        assert_eq!(rt; trace.len(), 4);
+        assert_eq!(rt; trace.events(&base), events_of_four);
+    }
+    Ok(())
+}
