@@ -1,1 +1,4 @@
 pub mod BitsLemmas
+pub mod ByName
+pub mod CountsLemmas
+pub mod TextMap

@@ -3,3 +3,4 @@ pub mod Counts
 pub mod Held
 pub mod Status
 pub mod Taken
+pub mod TextMap

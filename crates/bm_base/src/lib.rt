@@ -3,6 +3,7 @@
 #![tactic(auto)]
 
 mod bits;
+mod counts;
 mod fault;
 mod name;
 mod range;
@@ -12,6 +13,7 @@ mod size;
 mod status;
 
 pub use bits::Bits;
+pub use counts::Counts;
 pub use fault::{Fault, NoMemory};
 pub use name::Name;
 pub use range::Range;

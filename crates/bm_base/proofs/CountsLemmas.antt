@@ -1,0 +1,27 @@
+-- Lemmas on counts of faults.
+use Rattle.std.proofs.Common.{◌≡◌, ◌≢◌, ℕ, ◌≤◌, ◌<◌, ◌^◌, Bool, true, false, cond, List, IsTrue, is_some, unwrap_or, Some, None, Option, refl, sym, ap, ◌∙◌, ⊎_elim, subst, arith}
+use Rattle.std.specs.Ordering.{nat_cmp, eq_by_cmp}
+use Rattle.std.specs.Cmp.Lexicographic.{slice_cmp, nat_list_cmp_total}
+use Rattle.std.specs.FinMap.{get, insert, contains_key, get-insert}
+use Rattle.bm_base.specs.Counts.{FaultCounts, count_of, up, entered, risen, SameCounts, RisesOnlyAt}
+use Rattle.bm_base.proofs.ByName.{get-insert_same, get-insert_other, insert-insert, cases_name}
+
+pub contains_key-entered : (name : List ℕ) (counts : FaultCounts) → IsTrue (contains_key (entered name counts) name)
+contains_key-entered name counts = ap is_some (get-insert_same counts name (count_of counts name))
+
+pub count_of-insert_same : (counts : FaultCounts) (name : List ℕ) (n : ℕ) → count_of (insert counts name n) name ≡ n
+count_of-insert_same counts name n = ap (λ o. unwrap_or o 0) (get-insert_same counts name n)
+
+pub count_of-insert_other : (counts : FaultCounts) (name : List ℕ) (n : ℕ) (q : List ℕ) → q ≢ name → count_of (insert counts name n) q ≡ count_of counts q
+count_of-insert_other counts name n q ne = ap (λ o. unwrap_or o 0) (get-insert_other counts name n q ne)
+
+pub SameCounts-entered : (name : List ℕ) (counts : FaultCounts) → SameCounts counts (entered name counts)
+SameCounts-entered name counts q = ⊎_elim (λ e. subst (λ x. count_of (entered name counts) x ≡ count_of counts x) (sym e) (count_of-insert_same counts name (count_of counts name))) (count_of-insert_other counts name (count_of counts name) q) (cases_name q name)
+
+pub risen-entered : (name : List ℕ) (counts : FaultCounts) → risen name (entered name counts) ≡ risen name counts
+risen-entered name counts =
+    insert-insert counts name _ _ ∙ ap (λ n. insert counts name (up n)) (count_of-insert_same counts name (count_of counts name))
+
+-- a count that a program holds is below the end
+pub RisesOnlyAt-risen : (name : List ℕ) (counts : FaultCounts) → count_of counts name < 2 ^ 64 → RisesOnlyAt name counts (risen name counts)
+RisesOnlyAt-risen name counts small = record { grows = rw (count_of-insert_same counts name (up (count_of counts name))) (omega arith); others = count_of-insert_other counts name _ }

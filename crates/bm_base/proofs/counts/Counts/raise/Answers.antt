@@ -1,0 +1,23 @@
+use Rattle.std.proofs.Common.{◌≡◌, Some, refl, ap, sym, ◌∙◌, is_some, unwrap_or}
+use Rattle.std.specs.Option.{option_copied_mut}
+use Rattle.std.specs.BTreeMap.{get_by_text}
+use Rattle.std.proofs.lemmas.Bool.{false≢true}
+use Rattle.bm_base.specs.Counts.{count_of, up}
+use Rattle.bm_base.proofs.TextMap.{get-seen_same, text_map-writes}
+use Rattle.bm_base.proofs.counts.Counts.raise.Goals as goal
+use Rattle.bm_base.proofs.counts.Counts.raise.Goals.{in-Some, in_default}
+
+pub returns : goal.returns
+returns c =
+    let name = c.args.name.now in
+    let old = c.self.inside.counts in
+    let seen = get-seen_same old c.args.self.now name c.self.view_is in
+    elim c.match-get_mut.branch [
+      | in-Some w ↦
+          let new = w.saturating_add.result in
+          let found : get_by_text old name ≡ Some w.in-Some.count.now = sym c.get_mut.ensures.value ∙ ap option_copied_mut w.in-Some.is in
+          let is_up : new ≡ up (count_of c.args.self.now name) = w.saturating_add.ensures ∙ ap (λ o. up (unwrap_or o 0)) (sym (seen ∙ found)) in
+          let wrote = text_map-writes (λ x. x) name old (c.get_mut.follows.lender new) new (c.get_mut.follows.holds new) (ap is_some found) in
+          rw (w.self-inside-is, wrote, c.self.view_is, is_up) refl
+      | in_default w ↦ absurd (false≢true (ap is_some (sym (seen ∙ sym c.get_mut.ensures.value ∙ ap option_copied_mut w.in_default.is)) ∙ c.requires))
+    ]
