@@ -1,5 +1,5 @@
 -- Lemmas on finite maps from names' bytes.
-use Rattle.std.proofs.Common.{◌≡◌, ◌≢◌, ◌⊎◌, inl, inr, ℕ, Bool, true, false, cond, List, Some, Option, refl, sym, ap, ◌∙◌}
+use Rattle.std.proofs.Common.{◌≡◌, ◌≢◌, ◌⊎◌, inl, inr, ⊎_elim, subst, ℕ, Bool, true, false, cond, List, Some, Option, refl, sym, ap, ◌∙◌}
 use Rattle.std.specs.declared.cmp.Ordering.{Ordering}
 use Rattle.std.specs.declared.cmp.Ordering.TheVariants.{Less, Equal, Greater}
 use Rattle.std.specs.Ordering.{nat_cmp, eq_by_cmp, is_eq}
@@ -51,3 +51,8 @@ module _ {X : Type 0} where
       ∙ ap (cond (eq_by_cmp (slice_cmp nat_cmp) q k) (Some w)) (get-insert nat_list_cmp_total m k v q)
       ∙ later _ v w (get m q)
       ∙ sym (get-insert nat_list_cmp_total m k w q))
+
+  -- to write what is there changes nothing
+  pub insert-found : (m : ByName X) (k : List ℕ) (v : X) → get m k ≡ Some v → insert m k v ≡ m
+  insert-found m k v found = same_map nat_list_cmp_total only_equal_tie _ _ (λ q.
+      ⊎_elim (λ e. subst (λ x. get (insert m k v) x ≡ get m x) (sym e) (get-insert_same m k v ∙ sym found)) (get-insert_other m k v q) (cases_name q k))

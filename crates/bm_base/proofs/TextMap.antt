@@ -44,12 +44,15 @@ module _ {A X Y : Type 0} (value : X → Y) where
       ∙ ap (cond (eq_by_cmp (slice_cmp nat_cmp) q bs) (Some (value v))) (sym (get-text_map m q))
       ∙ sym (get-insert nat_list_cmp_total (text_map value m) bs (value v) q))
 
-  pub text_map-writes : (bs : List ℕ) (m n : BTreeMap (String A) X) (v : X) → WritesThrough string_cmp (λ k. slice_cmp nat_cmp bs (string_bytes k)) m v n → IsSome (get_by_text m bs) → text_map value n ≡ insert (text_map value m) bs (value v)
-  text_map-writes bs m n v h had = text_map-updates bs m n v (h.3 had)
+  pub text_map-writes : (bs : List ℕ) (m n : BTreeMap (String A) X) (v : X) (y : Y) → WritesThrough string_cmp (λ k. slice_cmp nat_cmp bs (string_bytes k)) m v n → IsSome (get_by_text m bs) → value v ≡ y → text_map value n ≡ insert (text_map value m) bs y
+  text_map-writes bs m n v y h had is = text_map-updates bs m n v (h.3 had) ∙ ap (insert (text_map value m) bs) is
+
+  pub get-seen : (m : BTreeMap (String A) X) (seen : FinMap (slice_cmp nat_cmp) Y) (q : List ℕ) → text_map value m ≡ seen → get seen q ≡ option_map value (get_by_text m q)
+  get-seen m seen q e = ap (λ n. get n q) (sym e) ∙ get-text_map m q
 
 same : {X : Type 0} (o : Option X) → option_map (λ x. x) o ≡ o
 same None = refl
 same (Some x) = refl
 
 pub get-seen_same : {A X : Type 0} (m : BTreeMap (String A) X) (seen : FinMap (slice_cmp nat_cmp) X) (q : List ℕ) → text_map (λ x. x) m ≡ seen → get seen q ≡ get_by_text m q
-get-seen_same m seen q e = ap (λ n. get n q) (sym e) ∙ get-text_map (λ x. x) m q ∙ same (get_by_text m q)
+get-seen_same m seen q e = get-seen (λ x. x) m seen q e ∙ same (get_by_text m q)

@@ -3,8 +3,11 @@
 #![tactic(auto)]
 
 mod bits;
+mod calm_shelf;
+mod copy;
 mod counts;
 mod fault;
+mod files;
 mod name;
 mod range;
 mod shelf;
@@ -13,6 +16,7 @@ mod size;
 mod status;
 
 pub use bits::Bits;
+pub use calm_shelf::CalmShelf;
 pub use counts::Counts;
 pub use fault::{Fault, NoMemory};
 pub use name::Name;

@@ -17,7 +17,7 @@ returns c =
           let new = w.saturating_add.result in
           let found : get_by_text old name ≡ Some w.in-Some.count.now = sym c.get_mut.ensures.value ∙ ap option_copied_mut w.in-Some.is in
           let is_up : new ≡ up (count_of c.args.self.now name) = w.saturating_add.ensures ∙ ap (λ o. up (unwrap_or o 0)) (sym (seen ∙ found)) in
-          let wrote = text_map-writes (λ x. x) name old (c.get_mut.follows.lender new) new (c.get_mut.follows.holds new) (ap is_some found) in
-          rw (w.self-inside-is, wrote, c.self.view_is, is_up) refl
+          let wrote = text_map-writes (λ x. x) name old (c.get_mut.follows.lender new) new _ (c.get_mut.follows.holds new) (ap is_some found) is_up in
+          rw (w.self-inside-is, wrote, c.self.view_is) refl
       | in_default w ↦ absurd (false≢true (ap is_some (sym (seen ∙ sym c.get_mut.ensures.value ∙ ap option_copied_mut w.in_default.is)) ∙ c.requires))
     ]

@@ -1,0 +1,15 @@
+ghost use Rattle.std.specs.Prelude.{◌≡◌, ◌-◌, ◌++◌, min, length, take, drop};
+
+// Copies the bytes from `at` on into the front of the buffer, as many as there are and fit, and says how many.
+pub(crate) fn copy_from(bytes: &[u8], at: u64, buf: &mut [u8]) -> usize
+    ensures count { result ≡ min (length buf.old) (length bytes.now - at) }
+    ensures copied { buf.new ≡ take result (drop at bytes.now) ++ drop result buf.old }
+{
+    if at >= bytes.len() as u64 {
+        return 0;
+    }
+    let rest = &bytes[at as usize..];
+    let count = rest.len().min(buf.len());
+    buf[..count].copy_from_slice(&rest[..count]);
+    count
+}
