@@ -1,5 +1,5 @@
 -- What a shelf holds: bytes under names.
-use Rattle.std.specs.Prelude.{◌≡◌, ◌⊎◌, ◌≤◌, ℕ, List, [], ◌++◌, Option, length, take, drop, unwrap_or}
+use Rattle.std.specs.Prelude.{◌≡◌, ◌⊎◌, ◌≤◌, ℕ, List, [], ◌++◌, Option, length, take, drop, unwrap_or, min, ◌-◌}
 use Rattle.std.specs.Option.{option_map}
 use Rattle.std.specs.Ordering.{nat_cmp}
 use Rattle.std.specs.Cmp.Lexicographic.{slice_cmp}
@@ -26,6 +26,11 @@ pub record Reads (bytes : List ℕ) (at count : ℕ) (buffer : List ℕ) : Type 
   pub same : take count buffer ≡ take count (drop at bytes)
   pub there : count ≤ length (drop at bytes)
   pub none : count ≡ 0 → (length bytes ≤ at) ⊎ (length buffer ≡ 0)
+
+-- The buffer's front has become the bytes from `at` on, as many as there are and fit, and the rest of it is as before.
+pub record Fills (bytes : List ℕ) (at count : ℕ) (old new : List ℕ) : Type 0 where
+  pub most : count ≡ min (length old) (length bytes - at)
+  pub buffer : new ≡ take count (drop at bytes) ++ drop count old
 
 -- All is as before, or a prefix of the piece stands at the end of the bytes under the name.
 abbrev pub GainsPrefix : List ℕ → List ℕ → Option Held → Option Held → Type 0

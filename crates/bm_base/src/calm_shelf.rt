@@ -1,7 +1,7 @@
 ghost use Rattle.std.specs.Prelude.{◌≡◌, ◌≤◌, [], OnOk, OnErr, IsOk, IfOk, IfErr, length, Some};
 ghost use Rattle.std.specs.Option.{option_copied};
 ghost use Rattle.std.specs.FinMap.{empty, get};
-ghost use Rattle.bm_base.specs.Held.{holding, appended, bytes_under, Reads};
+ghost use Rattle.bm_base.specs.Held.{holding, appended, bytes_under, Reads, Fills};
 
 use crate::copy::copy_from;
 use crate::files::Files;
@@ -73,6 +73,7 @@ impl Shelf for CalmShelf {
     fn read_at(&mut self, name: &str, at: u64, buf: &mut [u8]) -> Result<usize, Fault>
         ensures within { IfOk result (λ count. count ≤ length buf.old) }
         ensures succeeds { IsOk result }
+        ensures fills { IfOk result (λ count. Fills (bytes_under self.old name.now) at count buf.old buf.new) }
         ensures bytes { IfOk result (λ count. Reads (bytes_under self.old name.now) at count buf.new) }
         ensures held { self.new ≡ self.old }
     {

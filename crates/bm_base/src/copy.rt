@@ -1,9 +1,8 @@
-ghost use Rattle.std.specs.Prelude.{◌≡◌, ◌-◌, ◌++◌, min, length, take, drop};
+ghost use Rattle.bm_base.specs.Held.{Fills};
 
 // Copies the bytes from `at` on into the front of the buffer, as many as there are and fit, and says how many.
 pub(crate) fn copy_from(bytes: &[u8], at: u64, buf: &mut [u8]) -> usize
-    ensures count { result ≡ min (length buf.old) (length bytes.now - at) }
-    ensures copied { buf.new ≡ take result (drop at bytes.now) ++ drop result buf.old }
+    ensures { Fills bytes.now at result buf.old buf.new }
 {
     if at >= bytes.len() as u64 {
         return 0;

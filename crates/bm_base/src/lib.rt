@@ -4,6 +4,7 @@
 
 mod bits;
 mod calm_shelf;
+mod calm_sink;
 mod copy;
 mod counts;
 mod fault;
@@ -17,6 +18,7 @@ mod status;
 
 pub use bits::Bits;
 pub use calm_shelf::CalmShelf;
+pub use calm_sink::CalmSink;
 pub use counts::Counts;
 pub use fault::{Fault, NoMemory};
 pub use name::Name;
