@@ -3,7 +3,7 @@ use Rattle.std.proofs.Common.{◌≡◌, ◌≢◌, ℕ, ◌≤◌, ◌<◌, ◌
 use Rattle.std.specs.Ordering.{nat_cmp, eq_by_cmp}
 use Rattle.std.specs.Cmp.Lexicographic.{slice_cmp, nat_list_cmp_total}
 use Rattle.std.specs.FinMap.{get, insert, contains_key, get-insert}
-use Rattle.bm_base.specs.Counts.{FaultCounts, count_of, up, entered, risen, SameCounts, RisesOnlyAt}
+use Rattle.bm_base.specs.Counts.{FaultCounts, count_of, up, entered, risen, SameCounts, Rose, RisesOnlyAt}
 use Rattle.bm_base.proofs.ByName.{get-insert_same, get-insert_other, insert-insert, cases_name}
 
 pub contains_key-entered : (name : List ℕ) (counts : FaultCounts) → IsTrue (contains_key (entered name counts) name)
@@ -22,6 +22,18 @@ pub risen-entered : (name : List ℕ) (counts : FaultCounts) → risen name (ent
 risen-entered name counts =
     insert-insert counts name _ _ ∙ ap (λ n. insert counts name (up n)) (count_of-insert_same counts name (count_of counts name))
 
--- a count that a program holds is below the end
-pub RisesOnlyAt-risen : (name : List ℕ) (counts : FaultCounts) → count_of counts name < 2 ^ 64 → RisesOnlyAt name counts (risen name counts)
-RisesOnlyAt-risen name counts small = record { grows = rw (count_of-insert_same counts name (up (count_of counts name))) (omega arith); others = count_of-insert_other counts name _ }
+pub RisesOnlyAt-risen : (name : List ℕ) (counts : FaultCounts) → count_of counts name ≤ up (count_of counts name) → RisesOnlyAt name counts (risen name counts)
+RisesOnlyAt-risen name counts grows = record {
+  grows = rw (count_of-insert_same counts name (up (count_of counts name))) grows;
+  others = count_of-insert_other counts name _;
+}
+
+pub Rose-risen : (name : List ℕ) (counts : FaultCounts) → Rose (count_of counts name) (count_of (risen name counts) name)
+Rose-risen name counts = rw (count_of-insert_same counts name (up (count_of counts name))) (omega arith)
+
+pub RisesOnlyAt-same : (name : List ℕ) (old new : FaultCounts) → SameCounts old new → RisesOnlyAt name old new
+RisesOnlyAt-same name old new same = record { grows = rw (same name) (omega arith); others = λ q _. same q }
+
+-- the counts may be entered first
+pub RisesOnlyAt-cong : (name : List ℕ) (old mid new : FaultCounts) → SameCounts old mid → RisesOnlyAt name mid new → RisesOnlyAt name old new
+RisesOnlyAt-cong name old mid new same rises = record { grows = rw (← same name) rises.grows; others = λ q ne. rises.others q ne ∙ same q }

@@ -2,11 +2,15 @@
 use Rattle.std.specs.Prelude.{◌≡◌, ◌≢◌, ◌≤◌, ℕ, ◌+◌, ◌-◌, ◌^◌, min, List, unwrap_or}
 use Rattle.std.specs.Ordering.{nat_cmp}
 use Rattle.std.specs.Cmp.Lexicographic.{slice_cmp}
-use Rattle.std.specs.FinMap.{FinMap, get, insert}
+use Rattle.std.specs.FinMap.{FinMap, code, get, insert}
+use Rattle.std.specs.Coded.{Coded, coded_ℕ, coded_list}
 
 -- A name that is not in it has the count 0.
 abbrev pub FaultCounts : Type 0
 FaultCounts = FinMap (slice_cmp nat_cmp) ℕ
+
+abbrev pub counts_code : Coded FaultCounts
+counts_code = code (coded_list coded_ℕ) coded_ℕ
 
 abbrev pub count_of : FaultCounts → List ℕ → ℕ
 count_of counts name = unwrap_or (get counts name) 0

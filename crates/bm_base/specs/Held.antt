@@ -3,11 +3,15 @@ use Rattle.std.specs.Prelude.{◌≡◌, ◌⊎◌, ◌≤◌, ℕ, List, [], �
 use Rattle.std.specs.Option.{option_map}
 use Rattle.std.specs.Ordering.{nat_cmp}
 use Rattle.std.specs.Cmp.Lexicographic.{slice_cmp}
-use Rattle.std.specs.FinMap.{FinMap, get, insert}
+use Rattle.std.specs.FinMap.{FinMap, code, get, insert}
+use Rattle.std.specs.Coded.{Coded, coded_ℕ, coded_list}
 
 -- the bytes under each name that is there
 abbrev pub Held : Type 0
 Held = FinMap (slice_cmp nat_cmp) (List ℕ)
+
+abbrev pub held_code : Coded Held
+held_code = code (coded_list coded_ℕ) (coded_list coded_ℕ)
 
 -- A name that is not there counts as empty.
 abbrev pub bytes_under : Held → List ℕ → List ℕ

@@ -1,6 +1,7 @@
 pub mod Bits
 pub mod Counts
 pub mod Held
+pub mod MemShelf
 pub mod MemSink
 pub mod Script
 pub mod Status

@@ -16,14 +16,12 @@ pub struct CalmShelf {
 }
 
 impl Model for CalmShelf {
-    ghost use Rattle.bm_base.specs.Held.{Held};
+    ghost use Rattle.bm_base.specs.Held.{Held, held_code};
 
     ghost Value = { Held };
 
-    ghost use Rattle.std.specs.Coded.{coded_ℕ, coded_list};
-    ghost use Rattle.std.specs.FinMap.{code};
 
-    ghost coded = { code (coded_list coded_ℕ) (coded_list coded_ℕ) };
+    ghost coded = { held_code };
 
     ghost view = { λ a. a.files };
 }

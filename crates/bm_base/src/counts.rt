@@ -1,6 +1,6 @@
-ghost use Rattle.std.specs.Prelude.{◌≡◌, IsTrue, OnOk, OnErr};
+ghost use Rattle.std.specs.Prelude.{◌≡◌, ◌≤◌, IsTrue, OnOk, OnErr};
 ghost use Rattle.std.specs.FinMap.{empty, contains_key};
-ghost use Rattle.bm_base.specs.Counts.{count_of, entered, risen, SameCounts};
+ghost use Rattle.bm_base.specs.Counts.{count_of, up, entered, risen, Rose, RisesOnlyAt, SameCounts};
 
 use crate::NoMemory;
 use std::alloc::Global;
@@ -15,14 +15,12 @@ pub struct Counts {
 }
 
 impl Model for Counts {
-    ghost use Rattle.std.specs.Coded.{coded_ℕ, coded_list};
-    ghost use Rattle.std.specs.FinMap.{code};
-    ghost use Rattle.bm_base.specs.Counts.{FaultCounts};
+    ghost use Rattle.bm_base.specs.Counts.{FaultCounts, counts_code};
     ghost use Rattle.bm_base.specs.TextMap.{text_map};
 
     ghost Value = { FaultCounts };
 
-    ghost coded = { code (coded_list coded_ℕ) coded_ℕ };
+    ghost coded = { counts_code };
 
     ghost view = { λ a. text_map (λ count. count) a.counts };
 }
@@ -61,20 +59,31 @@ impl Counts {
     /// Counts one more for a name that has been entered.
     pub fn raise(&mut self, name: &str)
         requires { IsTrue (contains_key self.old name.now) }
-        ensures { self.new ≡ risen name.now self.old }
+        ensures risen { self.new ≡ risen name.now self.old }
+        ensures rose { Rose (count_of self.old name.now) (count_of self.new name.now) }
+        ensures only { RisesOnlyAt name.now self.old self.new }
     {
         if let Some(count) = self.counts.get_mut(name) {
-            *count = count.saturating_add(1);
+            *count = one_more(*count);
         }
     }
 
     /// Counts one more for the name. A count at 2^64 - 1 stays there.
     pub fn rise(&mut self, name: &str) -> Result<(), NoMemory>
         ensures ok { OnOk result (self.new ≡ risen name.now self.old) }
+        ensures rose { OnOk result (Rose (count_of self.old name.now) (count_of self.new name.now)) }
+        ensures only { RisesOnlyAt name.now self.old self.new }
         ensures err { OnErr result (self.new ≡ self.old) }
     {
         self.enter(name)?;
         self.raise(name);
         Ok(())
     }
+}
+
+fn one_more(count: u64) -> u64
+    ensures up { result ≡ up count }
+    ensures grows { count ≤ result }
+{
+    count.saturating_add(1)
 }

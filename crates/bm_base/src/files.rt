@@ -16,14 +16,12 @@ pub(crate) struct Files {
 }
 
 impl Model for Files {
-    ghost use Rattle.std.specs.Coded.{coded_ℕ, coded_list};
-    ghost use Rattle.std.specs.FinMap.{code};
-    ghost use Rattle.bm_base.specs.Held.{Held};
+    ghost use Rattle.bm_base.specs.Held.{Held, held_code};
     ghost use Rattle.bm_base.specs.TextMap.{text_map};
 
     ghost Value = { Held };
 
-    ghost coded = { code (coded_list coded_ℕ) (coded_list coded_ℕ) };
+    ghost coded = { held_code };
 
     ghost view = { λ a. text_map (λ bytes. bytes.items) a.files };
 }

@@ -3,12 +3,14 @@
 #![tactic(auto)]
 
 mod bits;
+mod call;
 mod calm_shelf;
 mod calm_sink;
 mod copy;
 mod counts;
 mod fault;
 mod files;
+mod mem_shelf;
 mod mem_sink;
 mod name;
 mod range;
@@ -17,12 +19,16 @@ mod shelf;
 mod sink;
 mod size;
 mod status;
+#[cfg(test)]
+mod tests;
 
 pub use bits::Bits;
+pub use call::Call;
 pub use calm_shelf::CalmShelf;
 pub use calm_sink::CalmSink;
 pub use counts::Counts;
 pub use fault::{Fault, NoMemory};
+pub use mem_shelf::MemShelf;
 pub use mem_sink::MemSink;
 pub use name::Name;
 pub use range::Range;
