@@ -1,8 +1,6 @@
 -- Lemmas on counts of faults.
-use Rattle.std.proofs.Common.{◌≡◌, ◌≢◌, ℕ, ◌≤◌, ◌<◌, ◌^◌, Bool, true, false, cond, List, IsTrue, is_some, unwrap_or, Some, None, Option, refl, sym, ap, ◌∙◌, ⊎_elim, subst, arith}
-use Rattle.std.specs.Ordering.{nat_cmp, eq_by_cmp}
-use Rattle.std.specs.Cmp.Lexicographic.{slice_cmp, nat_list_cmp_total}
-use Rattle.std.specs.FinMap.{get, insert, contains_key, get-insert}
+use Rattle.std.proofs.Common.{◌≡◌, ◌≢◌, ℕ, ◌≤◌, List, IsTrue, is_some, unwrap_or, sym, ap, ◌∙◌, ⊎_elim, subst, arith}
+use Rattle.std.specs.FinMap.{insert, contains_key}
 use Rattle.bm_base.specs.Counts.{FaultCounts, count_of, up, entered, risen, SameCounts, Rose, RisesOnlyAt}
 use Rattle.bm_base.proofs.ByName.{get-insert_same, get-insert_other, insert-insert, cases_name}
 

@@ -20,7 +20,6 @@ impl Model for CalmShelf {
 
     ghost Value = { Held };
 
-
     ghost coded = { held_code };
 
     ghost view = { λ a. a.files };

@@ -1,8 +1,7 @@
 use Rattle.std.proofs.Common.{IsTrue, rules, subst, sym}
 use Rattle.std.specs.FinMap.{contains_key}
-use Rattle.std.proofs.lemmas.Result.{IfErr-at_err}
 use Rattle.std.specs.String.{string_bytes}
-use Rattle.bm_base.specs.Counts.{FaultCounts, SameCounts, entered}
+use Rattle.bm_base.specs.Counts.{FaultCounts, SameCounts}
 use Rattle.bm_base.proofs.TextMap.{text_map-unchanged, text_map-updates}
 use Rattle.bm_base.proofs.CountsLemmas.{contains_key-entered, SameCounts-entered}
 use Rattle.bm_base.proofs.counts.Counts.enter.Goals as goal

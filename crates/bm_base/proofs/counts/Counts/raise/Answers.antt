@@ -1,4 +1,4 @@
-use Rattle.std.proofs.Common.{◌≡◌, ◌≤◌, Some, refl, ap, sym, ◌∙◌, is_some, unwrap_or, subst}
+use Rattle.std.proofs.Common.{◌≡◌, ◌≤◌, Some, refl, ap, sym, ◌∙◌, is_some, unwrap_or}
 use Rattle.std.specs.Option.{option_copied_mut}
 use Rattle.std.specs.BTreeMap.{get_by_text}
 use Rattle.std.proofs.lemmas.Bool.{false≢true}
@@ -15,11 +15,11 @@ returns-clause-risen c =
     let seen = get-seen_same old c.args.self.now name c.self.view_is in
     elim c.match-get_mut.branch [
       | in-Some w ↦
-        let new = w.one_more.result in
-        let found : get_by_text old name ≡ Some w.in-Some.count.now = sym c.get_mut.ensures.value ∙ ap option_copied_mut w.in-Some.is in
-        let is_up : new ≡ up (count_of c.args.self.now name) = w.one_more.ensures.up ∙ ap (λ o. up (unwrap_or o 0)) (sym (seen ∙ found)) in
-        let wrote = text_map-writes (λ x. x) name old (c.get_mut.follows.lender new) new _ (c.get_mut.follows.holds new) (ap is_some found) is_up in
-        rw (w.self-inside-is, wrote, c.self.view_is) refl
+          let new = w.one_more.result in
+          let found : get_by_text old name ≡ Some w.in-Some.count.now = sym c.get_mut.ensures.value ∙ ap option_copied_mut w.in-Some.is in
+          let is_up : new ≡ up (count_of c.args.self.now name) = w.one_more.ensures.up ∙ ap (λ o. up (unwrap_or o 0)) (sym (seen ∙ found)) in
+          let wrote = text_map-writes (λ x. x) name old (c.get_mut.follows.lender new) new _ (c.get_mut.follows.holds new) (ap is_some found) is_up in
+          rw (w.self-inside-is, wrote, c.self.view_is) refl
       | in_default w ↦ absurd (false≢true (ap is_some (sym (seen ∙ sym c.get_mut.ensures.value ∙ ap option_copied_mut w.in_default.is)) ∙ c.requires))
     ]
 
@@ -33,8 +33,8 @@ returns-clause-only c =
     let seen = get-seen_same old c.args.self.now name c.self.view_is in
     let grows : count_of c.args.self.now name ≤ up (count_of c.args.self.now name) = elim c.match-get_mut.branch [
       | in-Some w ↦
-        let found : get_by_text old name ≡ Some w.in-Some.count.now = sym c.get_mut.ensures.value ∙ ap option_copied_mut w.in-Some.is in
-        rw (seen ∙ found, ← w.one_more.ensures.up) w.one_more.ensures.grows
+          let found : get_by_text old name ≡ Some w.in-Some.count.now = sym c.get_mut.ensures.value ∙ ap option_copied_mut w.in-Some.is in
+          rw (seen ∙ found, ← w.one_more.ensures.up) w.one_more.ensures.grows
       | in_default w ↦ absurd (false≢true (ap is_some (sym (seen ∙ sym c.get_mut.ensures.value ∙ ap option_copied_mut w.in_default.is)) ∙ c.requires))
     ] in
     rw (returns-clause-risen c) (RisesOnlyAt-risen name c.args.self.now grows)

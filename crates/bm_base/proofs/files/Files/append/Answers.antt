@@ -1,4 +1,4 @@
-use Rattle.std.proofs.Common.{◌≡◌, Some, None, List, ℕ, ap, sym, refl, ◌∙◌, is_some, rules, unwrap_or, [], ◌++◌}
+use Rattle.std.proofs.Common.{◌≡◌, Some, None, ap, sym, ◌∙◌, is_some, rules, unwrap_or, [], ◌++◌}
 use Rattle.std.specs.Option.{option_map, option_copied_mut}
 use Rattle.std.specs.BTreeMap.{get_by_text}
 use Rattle.std.specs.FinMap.{get}

@@ -1,5 +1,3 @@
-use Rattle.std.proofs.Common.{ap}
-use Rattle.std.specs.Option.{option_map, option_copied}
 use Rattle.bm_base.proofs.TextMap.{get-seen}
 use Rattle.bm_base.proofs.files.Files.get.Goals as goal
 
