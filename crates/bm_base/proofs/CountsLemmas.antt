@@ -2,7 +2,7 @@
 use Rattle.std.proofs.Common.{◌≡◌, ◌≢◌, ℕ, ◌≤◌, List, IsTrue, is_some, unwrap_or, sym, ap, ◌∙◌, ⊎_elim, subst, arith}
 use Rattle.std.specs.FinMap.{insert, contains_key}
 use Rattle.bm_base.specs.Counts.{FaultCounts, count_of, up, entered, risen, SameCounts, Rose, RisesOnlyAt}
-use Rattle.bm_base.proofs.ByName.{get-insert_same, get-insert_other, insert-insert, cases_name}
+use Rattle.bm_base.specs.ByName.{get-insert_same, get-insert_other, insert-insert, cases_name}
 
 pub contains_key-entered : (name : List ℕ) (counts : FaultCounts) → IsTrue (contains_key (entered name counts) name)
 contains_key-entered name counts = ap is_some (get-insert_same counts name (count_of counts name))

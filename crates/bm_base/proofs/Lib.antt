@@ -1,4 +1,3 @@
 pub mod BitsLemmas
-pub mod ByName
 pub mod CountsLemmas
 pub mod TextMap

@@ -1,4 +1,5 @@
 pub mod Bits
+pub mod ByName
 pub mod Counts
 pub mod Held
 pub mod MemShelf

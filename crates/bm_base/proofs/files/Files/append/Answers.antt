@@ -5,7 +5,7 @@ use Rattle.std.specs.FinMap.{get}
 use Rattle.std.proofs.lemmas.Result.{on_ok_weaker}
 use Rattle.bm_base.specs.TextMap.{text_map}
 use Rattle.bm_base.specs.Held.{bytes_under, holding}
-use Rattle.bm_base.proofs.ByName.{insert-found}
+use Rattle.bm_base.specs.ByName.{insert-found}
 use Rattle.bm_base.proofs.TextMap.{get-seen, text_map-writes}
 use Rattle.bm_base.proofs.files.Files.append.Goals as goal
 
