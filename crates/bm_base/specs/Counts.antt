@@ -5,13 +5,14 @@ use Rattle.std.specs.Cmp.Lexicographic.{slice_cmp}
 use Rattle.std.specs.FinMap.{FinMap, code, get, insert}
 use Rattle.std.specs.Coded.{Coded, coded_ℕ, coded_list}
 
--- A name that is not in it has the count 0.
+-- the counts of the names that are in it
 abbrev pub FaultCounts : Type 0
 FaultCounts = FinMap (slice_cmp nat_cmp) ℕ
 
 abbrev pub counts_code : Coded FaultCounts
 counts_code = code (coded_list coded_ℕ) coded_ℕ
 
+-- A name that is not in it has the count 0.
 abbrev pub count_of : FaultCounts → List ℕ → ℕ
 count_of counts name = unwrap_or (get counts name) 0
 

@@ -14,7 +14,8 @@ use std::alloc::Global;
 use std::marker::Model;
 
 /// Bytes in memory under names, whose calls fail where told. `len` and `read_at` also fail for a name that is not there,
-/// which stays absent. A call that is answered `Memory` is not counted.
+/// which stays absent. A call that is answered `Memory` is not counted and leaves the shelf as it was, but that an
+/// `append` which was to fail may have entered the name, at 0, into the counts of failed writes.
 #[derive(Debug, Drop)]
 pub struct MemShelf {
     files: Files,
