@@ -1,9 +1,12 @@
 -- What several calls of a shelf do together.
-use Rattle.std.proofs.Common.{◌≡◌, ◌≤◌, ◌+◌, ◌-◌, ◌^◌, ◌++◌, ℕ, List, Option, length, take, drop, min, IfSome, Some, None, arith, refl, sym, ◌∙◌, ap}
+use Rattle.std.proofs.Common.{◌≡◌, ◌≤◌, ◌+◌, ◌++◌, ℕ, List, Option, length, take, drop, IfSome, Some, None, arith, refl, sym, ◌∙◌, ap, [], ◌⊎◌, inl, inr, ⊎_elim, subst, unwrap_or}
 use Rattle.std.proofs.Math.Seq.{take-add, take-append_seam, drop-append_seam}
 use Rattle.std.proofs.lemmas.List.{length-take, length-drop, take-append-le}
+use Rattle.std.specs.Option.{option_map}
+use Rattle.bm_base.specs.ByName.{get-insert_same, insert-insert, cases_name}
 use Rattle.bm_base.specs.Counts.{FaultCounts, count_of, Rose, RisesOnlyAt, SameCounts}
-use Rattle.bm_base.specs.Held.{Held, bytes_under, Reads}
+use Rattle.bm_base.specs.Held.{Held, bytes_under, holding, appended, Reads, GainsPrefix}
+use Rattle.bm_cli.specs.Files.{HoldsPrefix}
 
 -- A count that doesn't fall first and then rises has risen.
 pub Rose_later : (before mid now : ℕ) → before ≤ mid → Rose mid now → Rose before now
@@ -53,3 +56,35 @@ pub told_more : (held : Option Held) (name : List ℕ) (at count : ℕ) (buffer 
     → IfSome held (λ h. ReadSoFar (bytes_under h name) (at + count) (take at buffer ++ (chunk ++ tail)))
 told_more None name at count buffer chunk tail within short so_far read = so_far
 told_more (Some h) name at count buffer chunk tail within short so_far read = ReadSoFar-more (bytes_under h name) at count buffer chunk tail within short so_far read
+
+-- what is held under a name that was just given bytes
+pub bytes_under-holding : (name bytes : List ℕ) (held : Held) → bytes_under (holding name bytes held) name ≡ bytes
+bytes_under-holding name bytes held = ap (λ found. unwrap_or found []) (get-insert_same held name bytes)
+
+-- a piece added to a name that was just emptied
+pub appended-holding : (name piece : List ℕ) (held : Held) → appended name piece (holding name [] held) ≡ holding name piece held
+appended-holding name piece held =
+    ap (λ bytes. holding name (bytes ++ piece) (holding name [] held)) (bytes_under-holding name [] held) ∙ insert-insert held name [] piece
+
+told_appended : (held : Option Held) (name piece : List ℕ) → option_map (appended name piece) (option_map (holding name []) held) ≡ option_map (holding name piece) held
+told_appended None name piece = refl
+told_appended (Some held) name piece = ap Some (appended-holding name piece held)
+
+-- a whole text after `create`
+pub written_whole : (old mid new : Option Held) (name text : List ℕ) → mid ≡ option_map (holding name []) old → new ≡ option_map (appended name text) mid → new ≡ option_map (holding name text) old
+written_whole old mid new name text created added = added ∙ ap (option_map (appended name text)) created ∙ told_appended old name text
+
+-- a part of a text after `create`
+pub written_part : (old mid new : Option Held) (name text : List ℕ) → mid ≡ option_map (holding name []) old → GainsPrefix name text mid new → HoldsPrefix name text old new
+written_part old mid new name text created (inl same) = inr (0, same ∙ created)
+written_part old mid new name text created (inr gained) = inr (gained.0, written_whole old mid new name (take gained.0 text) created gained.1)
+
+-- a `create` that failed
+pub created_part : (old new : Option Held) (name text : List ℕ) → (new ≡ old) ⊎ (new ≡ option_map (holding name []) old) → HoldsPrefix name text old new
+created_part old new name text (inl same) = inl same
+created_part old new name text (inr emptied) = inr (0, emptied)
+
+-- A read step lets no count fall, whatever the name.
+pub grows_anywhere : (name q : List ℕ) (old new : FaultCounts) → RisesOnlyAt name old new → count_of old q ≤ count_of new q
+grows_anywhere name q old new rises =
+    ⊎_elim (λ same. subst (λ x. count_of old x ≤ count_of new x) (sym same) rises.grows) (λ other. omega (arith, rises.others q other)) (cases_name q name)

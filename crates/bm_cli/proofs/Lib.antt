@@ -1,2 +1,8 @@
+pub mod CalmLemmas
+pub mod CircuitLemmas
+pub mod ConditionLemmas
 pub mod FileLemmas
+pub mod Scalars
+pub mod SimulationLemmas
+pub mod TopLemmas
 pub mod WordLemmas

@@ -1,5 +1,5 @@
 -- A command line is its eleven words, and asks for one thing.
-use Rattle.std.proofs.Common.{◌≡◌, ℕ, List, [], ◌∷◌, length, slice_get, Some, None, arith, sym, ◌∙◌, codes}
+use Rattle.std.proofs.Common.{◌≡◌, ℕ, List, [], ◌∷◌, length, slice_get, Some, arith, sym, ◌∙◌, codes}
 use Rattle.bm_cli.specs.Words.{Request, HasForm}
 
 pub eleven : (xs : List (List ℕ)) (b c d e f g h i j k : List ℕ) → length xs ≡ 11

@@ -1,3 +1,11 @@
+pub mod Answer
 pub mod Asked
+pub mod Circuit
+pub mod Command
 pub mod Files
+pub mod Minimise
+pub mod Named
+pub mod Printed
+pub mod Simulation
+pub mod Waveform
 pub mod Words

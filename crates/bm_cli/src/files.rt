@@ -2,8 +2,8 @@
 ghost use Rattle.std.specs.Prelude.{◌≡◌, ◌⊎◌, ◌<◌, ◌≤◌, length, IfOk, IfSome, IsErrOf, OnOk, OnErr};
 ghost use Rattle.std.specs.Option.{option_map};
 ghost use Rattle.bm_base.specs.Counts.{count_of, Rose, RisesOnlyAt, SameCounts};
-ghost use Rattle.bm_base.specs.Held.{bytes_under};
-ghost use Rattle.bm_cli.specs.Files.{IsWithin, Fills};
+ghost use Rattle.bm_base.specs.Held.{bytes_under, holding};
+ghost use Rattle.bm_cli.specs.Files.{IsWithin, Fills, HoldsPrefix};
 
 use bm_base::{Fault, Shelf};
 use std::alloc::Global;
@@ -49,4 +49,14 @@ fn fill<F: Shelf>(shelf: &mut F, name: &str, buffer: &mut [u8]) -> Result<usize,
         at += count;
     }
     Ok(at)
+}
+
+/// Empties the file, or makes it, and writes the text into it in one piece.
+pub fn write_file<F: Shelf>(shelf: &mut F, name: &str, text: &[u8]) -> Result<(), Fault>
+    ensures ok { OnOk result (F.held shelf.new ≡ option_map (holding name.now text.now) (F.held shelf.old)) }
+    ensures err { OnErr result (HoldsPrefix name.now text.now (F.held shelf.old) (F.held shelf.new)) }
+    ensures cause { IsErrOf result Fault.Failed → Rose (count_of (F.writes shelf.old) name.now) (count_of (F.writes shelf.new) name.now) }
+{
+    shelf.create(name)?;
+    shelf.append(name, text)
 }

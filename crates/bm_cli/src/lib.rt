@@ -1,7 +1,17 @@
 //! The top call: the commands of `butramin` over any shelf and any sink.
 #![tactic(auto)]
 
+mod answer;
+mod calm;
 mod files;
 mod form;
+mod minimise;
 mod netlist;
+#[cfg(test)]
+mod tests;
+mod top;
+mod waveform;
 mod words;
+
+pub use calm::run_calmly;
+pub use top::run;

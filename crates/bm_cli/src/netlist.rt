@@ -1,4 +1,30 @@
 //! The first form of a netlist: one flat module of `and`, `not` and plain registers.
+ghost use Rattle.std.specs.Prelude.{◌≡◌, length, IfOk};
+ghost use Rattle.bm_cli.specs.Circuit.{IsInOrder};
+ghost use Rattle.bm_cli.specs.Named.{AreNamed};
+ghost use Rattle.bm_cli.specs.Waveform.{AreScalars};
 
-pub mod grammar;
-pub mod token;
+pub mod circuit;
+mod conditions;
+mod grammar;
+pub mod simulation;
+mod token;
+
+use crate::form::FormFault;
+use crate::words::Names;
+use circuit::Circuit;
+use std::alloc::Global;
+use trace_rows::Labels;
+
+/// The circuit of a netlist, and the labels of its traces.
+pub fn read(alloc: Global, bytes: &[u8], names: &Names) -> Result<(Circuit, Labels), FormFault>
+    ensures circuit { IfOk result (λ read. IsInOrder read.0) }
+    ensures ports { IfOk result (λ read. AreScalars read.1.ports × (length read.1.ports ≡ read.0.inputs)) }
+    ensures labels { IfOk result (λ read. AreNamed names.now read.1) }
+{
+    let Some(tokens) = token::tokens(alloc, bytes)? else {
+        return Err(FormFault::Form);
+    };
+    let design = grammar::design(alloc, &tokens)?;
+    conditions::circuit(alloc, &design, names)
+}

@@ -1,7 +1,7 @@
-use Rattle.std.proofs.Common.{◌≡◌, ◌≤◌, ◌-◌, ◌+◌, ℕ, List, Option, length, take, drop, arith, ◌∙◌, subst, IfSome}
+use Rattle.std.proofs.Common.{◌≡◌, ◌-◌, Option, length, take, drop, arith, ◌∙◌, subst, IfSome}
 use Rattle.std.proofs.lemmas.List.{length-take, length-drop, length-append}
 use Rattle.bm_base.specs.Held.{Held, bytes_under, Reads}
-use Rattle.bm_cli.proofs.FileLemmas.{FillsSoFar, RisesOnlyAt-trans, SameCounts-trans, told_more}
+use Rattle.bm_cli.proofs.FileLemmas.{RisesOnlyAt-trans, SameCounts-trans, told_more}
 use Rattle.bm_cli.proofs.files.fill.Goals as goal
 
 pub loop-at-preserved : goal.loop-at-preserved

@@ -1,4 +1,4 @@
-use Rattle.std.proofs.Common.{◌≡◌, List, ℕ, length, refl, ◌∙◌}
+use Rattle.std.proofs.Common.{◌≡◌, length, refl, ◌∙◌}
 use Rattle.std.proofs.lemmas.List.{length-map}
 use Rattle.bm_cli.proofs.WordLemmas.{eleven}
 use Rattle.bm_cli.specs.Words.{texts, HasFixedWords}

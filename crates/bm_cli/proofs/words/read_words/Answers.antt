@@ -1,5 +1,5 @@
 use Rattle.std.proofs.Common.{◌≡◌, true, false, subst}
-use Rattle.bm_cli.specs.Words.{Request, HasFitNames}
+use Rattle.bm_cli.specs.Words.{HasFitNames}
 use Rattle.bm_cli.specs.Asked.{request_of}
 use Rattle.bm_cli.proofs.WordLemmas.{one_request}
 use Rattle.bm_cli.proofs.words.read_words.Goals as goal

@@ -1,0 +1,37 @@
+-- The answers, their statuses and their lines.
+use Rattle.std.specs.Prelude.{ℕ, List, ◌++◌, codes, decimal}
+use Rattle.bm_base.specs.declared.status.Status.{Status}
+use Rattle.bm_base.specs.declared.status.Status.TheVariants as status
+use Rattle.bm_cli.specs.declared.answer.Summary.{Summary}
+use Rattle.bm_cli.specs.declared.answer.Refusal.{Refusal}
+use Rattle.bm_cli.specs.declared.answer.Refusal.TheVariants.{NoViolation, Words, NetlistForm, WaveformForm, ReadFault}
+use Rattle.bm_cli.specs.declared.answer.Answer.{Answer}
+use Rattle.bm_cli.specs.declared.answer.Answer.TheVariants.{Minimised, Refused}
+
+abbrev pub refusal_status : Refusal → Status
+refusal_status NoViolation = status.No
+refusal_status Words = status.Words
+refusal_status NetlistForm = status.Netlist
+refusal_status WaveformForm = status.Waveform
+refusal_status ReadFault = status.ReadFault
+
+abbrev pub status_of : Answer → Status
+status_of (Minimised summary) = status.Done
+status_of (Refused refusal) = refusal_status refusal
+
+abbrev pub summary_line : Summary → List ℕ
+summary_line s = codes "minimised: cycles " ++ decimal s.cycles_before ++ codes " to " ++ decimal s.cycles
+    ++ codes ", events " ++ decimal s.events_before ++ codes " to " ++ decimal s.events
+    ++ codes ", windows 0 certified, 0 open, x 0\n"
+
+abbrev pub refusal_line : Refusal → List ℕ
+refusal_line NoViolation = codes "no violation\n"
+refusal_line Words = codes "words refused\n"
+refusal_line NetlistForm = codes "netlist refused: form\n"
+refusal_line WaveformForm = codes "waveform refused: form\n"
+refusal_line ReadFault = codes "read fault\n"
+
+-- the line, with its newline
+abbrev pub line_of : Answer → List ℕ
+line_of (Minimised summary) = summary_line summary
+line_of (Refused refusal) = refusal_line refusal

@@ -1,0 +1,42 @@
+-- What a command does to a shelf, by what its words ask for.
+use Rattle.std.specs.Prelude.{◌≡◌, ◌⊎◌, ℕ, List, Option}
+use Rattle.bm_base.specs.Counts.{FaultCounts, count_of, Rose}
+use Rattle.bm_base.specs.Held.{Held}
+use Rattle.bm_base.specs.declared.status.Status.{Status}
+use Rattle.bm_base.specs.declared.status.Status.TheVariants.{Done, No, Words, Netlist, Waveform, ReadFault, WriteFault, Limit, Memory, Certificate}
+use Rattle.bm_cli.specs.Words.{Request, Asks}
+use Rattle.bm_cli.specs.Minimise.{HoldsOut, HoldsPart}
+
+-- The words ask for something of which this holds.
+abbrev pub AskFor : List (List ℕ) → (Request → Type 0) → Type 0
+AskFor words P = (request : Request) × Asks words request × P request
+
+-- The read count of a file that the command reads has risen.
+abbrev pub FailsReading : List (List ℕ) → FaultCounts → FaultCounts → Type 0
+FailsReading words old new = AskFor words (λ request.
+    (Rose (count_of old request.netlist) (count_of new request.netlist)) ⊎ (Rose (count_of old request.stimulus) (count_of new request.stimulus)))
+
+-- The write count of the file that the command writes has risen.
+abbrev pub FailsWriting : List (List ℕ) → FaultCounts → FaultCounts → Type 0
+FailsWriting words old new = AskFor words (λ request. Rose (count_of old request.out) (count_of new request.out))
+
+-- The output holds its text, and nothing else has changed.
+abbrev pub HoldsAsked : List (List ℕ) → Option Held → Option Held → Type 0
+HoldsAsked words old new = AskFor words (λ request. HoldsOut request old new)
+
+-- All is as before, or the output holds a prefix of its text and nothing else has changed.
+abbrev pub MayHoldPart : List (List ℕ) → Option Held → Option Held → Type 0
+MayHoldPart words old new = (new ≡ old) ⊎ AskFor words (λ request. HoldsPart request old new)
+
+-- With 0 the output holds its text, with a write fault and want of memory it may hold a part of it, and with each other status all is as before.
+abbrev pub LeavesShelf : List (List ℕ) → Status → Option Held → Option Held → Type 0
+LeavesShelf words Done old new = HoldsAsked words old new
+LeavesShelf words WriteFault old new = MayHoldPart words old new
+LeavesShelf words Memory old new = MayHoldPart words old new
+LeavesShelf words No old new = new ≡ old
+LeavesShelf words Words old new = new ≡ old
+LeavesShelf words Netlist old new = new ≡ old
+LeavesShelf words Waveform old new = new ≡ old
+LeavesShelf words ReadFault old new = new ≡ old
+LeavesShelf words Limit old new = new ≡ old
+LeavesShelf words Certificate old new = new ≡ old

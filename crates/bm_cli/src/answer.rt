@@ -1,0 +1,149 @@
+//! What a command answers, and the line that it prints.
+ghost use Rattle.std.specs.Prelude.{◌≡◌, IfOk};
+ghost use Rattle.std.specs.String.{string_bytes};
+ghost use Rattle.bm_cli.specs.Answer.{line_of, refusal_line, refusal_status, status_of};
+
+use bm_base::{NoMemory, Status};
+use std::alloc::{AllocError, AllocFailed, Global};
+
+/// What `minimise` made of a stimulus.
+#[derive(Clone, Copy, Debug, PartialEq, Eq)]
+pub struct Summary {
+    /// Cycles and events of the whole stimulus.
+    pub cycles_before: usize,
+    pub events_before: u64,
+    /// Cycles and events of the trace that was written.
+    pub cycles: usize,
+    pub events: u64,
+}
+
+/// Why a command's work was not done, where a line says so.
+#[derive(Clone, Copy, Debug, PartialEq, Eq)]
+pub enum Refusal {
+    /// No cycle of the stimulus violates.
+    NoViolation,
+    /// The words are of no command's form.
+    Words,
+    /// The netlist is not of the first form.
+    NetlistForm,
+    /// The waveform is not of the first form.
+    WaveformForm,
+    /// A file could not be read.
+    ReadFault,
+}
+
+impl Refusal {
+    fn status(&self) -> Status
+        ensures { result ≡ refusal_status self.now }
+    {
+        match self {
+            Refusal::NoViolation => Status::No,
+            Refusal::Words => Status::Words,
+            Refusal::NetlistForm => Status::Netlist,
+            Refusal::WaveformForm => Status::Waveform,
+            Refusal::ReadFault => Status::ReadFault,
+        }
+    }
+
+    fn line(&self) -> &'static str
+        ensures { result.now ≡ refusal_line self.now }
+    {
+        match self {
+            Refusal::NoViolation => "no violation\n",
+            Refusal::Words => "words refused\n",
+            Refusal::NetlistForm => "netlist refused: form\n",
+            Refusal::WaveformForm => "waveform refused: form\n",
+            Refusal::ReadFault => "read fault\n",
+        }
+    }
+}
+
+/// An answer that prints a line.
+#[derive(Clone, Copy, Debug, PartialEq, Eq)]
+pub enum Answer {
+    Minimised(Summary),
+    Refused(Refusal),
+}
+
+impl Answer {
+    pub fn status(&self) -> Status
+        ensures { result ≡ status_of self.now }
+    {
+        match self {
+            Answer::Minimised(_) => Status::Done,
+            Answer::Refused(refusal) => refusal.status(),
+        }
+    }
+
+    /// The line, with its newline.
+    pub fn line(&self, alloc: Global) -> Result<String, AllocError>
+        ensures { IfOk result (λ line. string_bytes line ≡ line_of self.now) }
+    {
+        match self {
+            Answer::Minimised(summary) => summary.line(alloc),
+            Answer::Refused(refusal) => String::from_str(alloc, refusal.line()),
+        }
+    }
+}
+
+impl Summary {
+    ghost use Rattle.bm_cli.specs.Answer.{summary_line};
+
+    fn line(&self, alloc: Global) -> Result<String, AllocError>
+        ensures { IfOk result (λ line. string_bytes line ≡ summary_line self.now) }
+    {
+        let Summary {
+            cycles_before,
+            events_before,
+            cycles,
+            events,
+        } = *self;
+        format!(in alloc;
+            "minimised: cycles {cycles_before} to {cycles}, events {events_before} to {events}, windows 0 certified, 0 open, x 0\n"
+        )
+    }
+}
+
+/// Why a command ends before its work is done.
+#[derive(Clone, Copy, Debug, PartialEq, Eq)]
+pub enum Stop {
+    /// It is refused, and a line says why.
+    Refused(Refusal),
+    /// Writing failed.
+    WriteFault,
+    /// There is no memory.
+    Memory,
+}
+
+impl From<NoMemory> for Stop {
+    ghost use Rattle.std.specs.Prelude.{◌≡◌};
+    ghost use Rattle.bm_cli.specs.declared.answer.Stop.TheVariants.{Memory};
+
+    ghost from_gives = { λ _ stop. stop ≡ Memory };
+
+    fn from(_: NoMemory) -> Stop {
+        Stop::Memory
+    }
+}
+
+impl From<AllocError> for Stop {
+    ghost use Rattle.std.specs.Prelude.{◌≡◌};
+    ghost use Rattle.bm_cli.specs.declared.answer.Stop.TheVariants.{Memory};
+
+    ghost from_gives = { λ _ stop. stop ≡ Memory };
+
+    fn from(_: AllocError) -> Stop {
+        Stop::Memory
+    }
+}
+
+impl<T: Drop> From<AllocFailed<T>> for Stop {
+    ghost use Rattle.std.specs.Prelude.{◌≡◌};
+    ghost use Rattle.bm_cli.specs.declared.answer.Stop.TheVariants.{Memory};
+
+    ghost from_gives = { λ _ stop. stop ≡ Memory };
+
+    fn from(_: AllocFailed<T>) -> Stop {
+        Stop::Memory
+    }
+}
