@@ -9,10 +9,9 @@ use bm_base::Status;
 use bm_cli::run;
 use os_shelf::OsShelf;
 use os_sink::OsSink;
-use std::env;
-use std::io;
 use std::process::ExitCode;
-use std::rt::Files;
+use std::rt::{Env, Files};
+use std::{env, io};
 
 fn main(rt: HostRuntime) -> ExitCode {
     ExitCode::from(perform(&rt).code())

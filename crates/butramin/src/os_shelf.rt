@@ -3,10 +3,9 @@ ghost use Rattle.std.specs.Prelude.{None, IfOk, ◌≤◌, length};
 use bm_base::{Counts, Fault, Shelf};
 use std::alloc::Global;
 use std::fs::OpenOptions;
-use std::io;
 use std::io::{Read, Seek, SeekFrom, Write};
 use std::rt::Files;
-use std::fs;
+use std::{fs, io};
 
 /// Real files under their paths. It tells nothing of what they hold, and counts each error of the system by the file's
 /// name and by whether it came in reading or in writing. The room for a count is made before the system is called, and
