@@ -28,6 +28,10 @@ HoldsAsked words old new = AskFor words (λ request. HoldsOut request old new)
 abbrev pub MayHoldPart : List (List ℕ) → Option Held → Option Held → Type 0
 MayHoldPart words old new = (new ≡ old) ⊎ AskFor words (λ request. HoldsPart request old new)
 
+-- The sink's count has risen, and the shelf is as it was or the output is whole.
+abbrev pub FailsPrinting : List (List ℕ) → ℕ → ℕ → Option Held → Option Held → Type 0
+FailsPrinting words faults faults_now old new = (Rose faults faults_now) × ((new ≡ old) ⊎ HoldsAsked words old new)
+
 -- With 0 the output holds its text, with a write fault and want of memory it may hold a part of it, and with each other status all is as before.
 abbrev pub LeavesShelf : List (List ℕ) → Status → Option Held → Option Held → Type 0
 LeavesShelf words Done old new = HoldsAsked words old new

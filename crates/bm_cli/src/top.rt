@@ -2,7 +2,7 @@
 ghost use Rattle.std.specs.Prelude.{◌≡◌, ◌⊎◌, OnErr, OnOk};
 ghost use Rattle.bm_base.specs.Counts.{Rose};
 ghost use Rattle.bm_cli.specs.Answer.{status_of};
-ghost use Rattle.bm_cli.specs.Command.{FailsReading, FailsWriting, HoldsAsked, LeavesShelf, MayHoldPart};
+ghost use Rattle.bm_cli.specs.Command.{FailsPrinting, FailsReading, FailsWriting, HoldsAsked, LeavesShelf, MayHoldPart};
 ghost use Rattle.bm_cli.specs.Printed.{Prints, PrintsForStatus};
 ghost use Rattle.bm_cli.specs.Words.{AskNothing, texts};
 
@@ -22,8 +22,9 @@ pub fn run<F: Shelf, S: Sink>(alloc: Global, words: &[String], shelf: &mut F, ou
     // Faults have their causes.
     ensures read_fault { result ≡ Status.ReadFault →
         FailsReading (texts words.now) (F.reads shelf.old) (F.reads shelf.new) }
-    ensures write_fault { result ≡ Status.WriteFault → (Rose (S.faults out.old) (S.faults out.new))
-        ⊎ (FailsWriting (texts words.now) (F.writes shelf.old) (F.writes shelf.new)) }
+    ensures write_fault { result ≡ Status.WriteFault →
+        FailsPrinting (texts words.now) (S.faults out.old) (S.faults out.new) (F.held shelf.old) (F.held shelf.new)
+        ⊎ FailsWriting (texts words.now) (F.writes shelf.old) (F.writes shelf.new) }
 
     // What the shelf and the sink hold.
     ensures shelf { LeavesShelf (texts words.now) result (F.held shelf.old) (F.held shelf.new) }

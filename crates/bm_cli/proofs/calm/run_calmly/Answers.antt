@@ -6,4 +6,4 @@ pub returns-clause-read_fault : goal.returns-clause-read_fault
 returns-clause-read_fault c = λ is. no_read_fails _ (c.run.ensures.read_fault is)
 
 pub returns-clause-write_fault : goal.returns-clause-write_fault
-returns-clause-write_fault c = λ is. ⊎_elim no_fault_at_0 (no_write_fails _) (c.run.ensures.write_fault is)
+returns-clause-write_fault c = λ is. ⊎_elim (λ printing. no_fault_at_0 printing.0) (no_write_fails _) (c.run.ensures.write_fault is)

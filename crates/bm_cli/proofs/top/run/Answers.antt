@@ -1,4 +1,4 @@
-use Rattle.std.proofs.Common.{ap, subst, Err}
+use Rattle.std.proofs.Common.{ap, inl, inr, subst, Err}
 use Rattle.bm_cli.specs.declared.answer.Answer.{Answer}
 use Rattle.bm_cli.specs.declared.answer.Answer.TheVariants.{Refused}
 use Rattle.bm_cli.specs.declared.answer.Refusal.TheVariants.{Words}
@@ -23,3 +23,12 @@ returns-in-Err-WriteFault-clause-printed g c = (Refused Words, (0, nothing_print
 
 pub returns-in-Err-Memory-clause-printed : goal.returns-in-Err-Memory-clause-printed
 returns-in-Err-Memory-clause-printed g c = (Refused Words, (0, nothing_printed (g.S.Sink.taken c.args.out.now) (line_of (Refused Words))))
+
+pub returns-clause-write_fault : goal.returns-clause-write_fault
+returns-clause-write_fault g c = λ is. inl (
+  c.print.ensures.cause is,
+  elim c.match-command.branch [
+    | in-Ok w ↦ inr w.in-Ok.ensures.written
+    | in-Err-Refused w ↦ inl (w.in-Err-Refused.ensures.refused w.in-Err-Refused.refusal (ap Err w.in-Err-Refused.field-0-is))
+  ],
+)
