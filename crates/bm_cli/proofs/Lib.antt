@@ -2,7 +2,10 @@ pub mod CalmLemmas
 pub mod CircuitLemmas
 pub mod ConditionLemmas
 pub mod FileLemmas
+pub mod LineLemmas
 pub mod Scalars
 pub mod SimulationLemmas
+pub mod TokenLemmas
 pub mod TopLemmas
+pub mod WaveformLemmas
 pub mod WordLemmas

@@ -7,5 +7,7 @@ pub mod Minimise
 pub mod Named
 pub mod Printed
 pub mod Simulation
+pub mod Tokens
 pub mod Waveform
+pub mod WaveformLines
 pub mod Words

@@ -1,5 +1,8 @@
 //! The top call over a shelf and a sink that never fail.
-ghost use Rattle.std.specs.Prelude.{◌≢◌};
+ghost use Rattle.std.specs.Prelude.{◌≡◌, ◌≢◌, ◌⊎◌, Some};
+ghost use Rattle.bm_cli.specs.Command.{LeavesShelf};
+ghost use Rattle.bm_cli.specs.Printed.{PrintsForStatus};
+ghost use Rattle.bm_cli.specs.Words.{AskNothing, texts};
 
 use crate::run;
 use bm_base::{CalmShelf, CalmSink, Status};
@@ -12,8 +15,12 @@ pub fn run_calmly(
     shelf: &mut CalmShelf,
     out: &mut CalmSink,
 ) -> Status
-    ensures read_fault { result ≢ Status.ReadFault }
-    ensures write_fault { result ≢ Status.WriteFault }
+    ensures no_read_fault { result ≢ Status.ReadFault }
+    ensures no_write_fault { result ≢ Status.WriteFault }
+    ensures words { result ≡ Status.Words → AskNothing (texts words.now) }
+    ensures words_refused { AskNothing (texts words.now) → (result ≡ Status.Words) ⊎ (result ≡ Status.Memory) }
+    ensures shelf { LeavesShelf (texts words.now) result (Some shelf.old) (Some shelf.new) }
+    ensures printed { PrintsForStatus result (Some out.old) (Some out.new) }
 {
     run(alloc, words, shelf, out)
 }

@@ -1,18 +1,35 @@
 //! The first form of a waveform: the text that the writer makes of some rows, without checker bits.
-ghost use Rattle.std.specs.Prelude.{◌≡◌, ◌<◌, All, IfOk, length};
-ghost use Rattle.bm_cli.specs.Waveform.{AreScalars};
+ghost use Rattle.std.specs.Prelude.{◌≡◌, ◌<◌, All, Bool, false, IfOk, IsErrOf, List, None, length, map, replicate};
+ghost use Rattle.bm_cli.specs.declared.form.FormFault;
+ghost use Rattle.bm_cli.specs.Waveform.{AreScalars, AreWords};
+ghost use Rattle.bm_cli.specs.WaveformLines.{is_bit_digit, is_edge_line, lines_of, number_of, row_after, rows_of_lines};
+ghost use Rattle.vcd_writer.specs.Waveform.{vcd};
 
 use crate::form::FormFault;
 use bm_base::{Bits, NoMemory};
-use std::alloc::Global;
+use std::alloc::{AllocError, Global};
 use trace_rows::{Labels, Trace};
 use vcd_writer::vcd_text;
 
+/// The base of the variables' codes.
+const BASE: usize = 94;
+
+/// The number of the clock's variable.
+const CLOCK: usize = 0;
+
+/// The number of the first port's variable; the others' follow.
+const FIRST_PORT: usize = 2;
+
 /// The rows of the waveform. Each port is one bit wide and has no range.
+///
+/// A newline in a name would cut a line in two, so that all rows are read is said where the names are words.
 pub fn read_waveform(alloc: Global, labels: &Labels, bytes: &[u8]) -> Result<Trace, FormFault>
     requires { AreScalars labels.now.ports }
     ensures width { IfOk result (λ trace. trace.width ≡ length labels.now.ports) }
     ensures rows { IfOk result (λ trace. 0 < length trace.rows) }
+    ensures text { IfOk result (λ trace. bytes.now ≡ vcd trace.rows labels.now None) }
+    ensures only { IfOk result (λ trace. AreWords labels.now → (rows : List (List Bool)) → 0 < length rows → All (λ row. length row ≡ length labels.now.ports) rows → bytes.now ≡ vcd rows labels.now None → trace.rows ≡ rows) }
+    ensures refused { IsErrOf result FormFault.Form → AreWords labels.now → (rows : List (List Bool)) → 0 < length rows → All (λ row. length row ≡ length labels.now.ports) rows → bytes.now ≡ vcd rows labels.now None → ⊥ }
 {
     let trace = rows(alloc, labels.ports.len(), bytes)?;
     let text = vcd_text(alloc, &trace, labels, None)?;
@@ -23,49 +40,78 @@ pub fn read_waveform(alloc: Global, labels: &Labels, bytes: &[u8]) -> Result<Tra
     }
 }
 
+/// A text is that of one list of rows.
+pub(crate) fn a_text_has_one_trace(labels: &Labels, bytes: &[u8])
+    requires scalars { AreScalars labels.now.ports }
+    requires words { AreWords labels.now }
+    ensures { (rows others : List (List Bool)) → 0 < length rows → 0 < length others
+        → All (λ row. length row ≡ length labels.now.ports) rows → All (λ row. length row ≡ length labels.now.ports) others
+        → bytes.now ≡ vcd rows labels.now None → bytes.now ≡ vcd others labels.now None → rows ≡ others }
+{}
+
 // The rows that the lines of a written waveform give: a row stands before each edge, and one at the end.
 fn rows(alloc: Global, width: usize, bytes: &[u8]) -> Result<Trace, NoMemory>
     ensures width { IfOk result (λ trace. trace.width ≡ width) }
-    ensures rows { IfOk result (λ trace. 0 < length trace.rows) }
+    ensures rows { IfOk result (λ trace. trace.rows ≡ rows_of_lines (replicate width false) (lines_of bytes.now)) }
 {
+    let lines = lines(alloc, bytes)?;
     let mut row = Bits::zeros(alloc, width)?;
     let mut trace = Trace::new(alloc, width);
-    for line in bytes.split(|byte| *byte == b'\n') {
+    for line in &lines {
         if is_edge(line) {
             trace.push(&row)?;
-        } else if let Some((port, bit)) = change(line) {
-            if port < width {
-                row.set(port, bit);
-            }
+        } else {
+            set_port(&mut row, line);
         }
     }
     trace.push(&row)?;
     Ok(trace)
 }
 
-// Whether the line is the time of an edge.
-fn is_edge(line: &[u8]) -> bool {
+fn lines(alloc: Global, bytes: &[u8]) -> Result<Vec<&[u8]>, AllocError>
+    ensures { IfOk result (λ lines. map (λ line. line.now) lines.items ≡ lines_of bytes.now) }
+{
+    bytes.split(|byte| *byte == b'\n').collect(alloc)
+}
+
+// Whether the line sets the clock to 1.
+fn is_edge(line: &[u8]) -> bool
+    ensures { result ≡ is_edge_line line.now }
+{
     match line {
-        [b'#', .., last] => *last == b'5',
-        _ => false,
+        [digit, code @ ..] => *digit == b'1' && number(code) == CLOCK,
+        [] => false,
     }
 }
 
-// The port that the line gives a value, and that value.
-fn change(line: &[u8]) -> Option<(usize, bool)> {
-    match line {
-        [b'0', code @ ..] => Some((port(code)?, false)),
-        [b'1', code @ ..] => Some((port(code)?, true)),
-        _ => None,
+// Sets the port that the line gives a value.
+fn set_port(row: &mut Bits, line: &[u8])
+    ensures { row.new ≡ row_after row.old line.now }
+{
+    if let [digit, code @ ..] = line {
+        let number = number(code);
+        if is_bit(*digit) && number >= FIRST_PORT && number - FIRST_PORT < row.len() {
+            row.set(number - FIRST_PORT, *digit == b'1');
+        }
     }
 }
 
-// The place of the port with this code: codes are numbers in base 94, the least digit first, and the ports' go on from 2.
-fn port(code: &[u8]) -> Option<usize> {
+fn is_bit(digit: u8) -> bool
+    ensures { result ≡ is_bit_digit digit }
+{
+    digit == b'0' || digit == b'1'
+}
+
+// The number with this code, which is in base 94, the least digit first. One that does not fit is taken modulo 2^64.
+fn number(code: &[u8]) -> usize
+    ensures { result ≡ number_of code.now }
+{
     let mut number = 0usize;
-    for digit in code.iter().rev() {
-        let digit = digit.checked_sub(b'!')?;
-        number = number.checked_mul(94)?.checked_add(usize::from(digit))?;
+    let mut i = code.len();
+    while i > 0 {
+        i -= 1;
+        let digit = usize::from(code[i].saturating_sub(b'!'));
+        number = number.wrapping_mul(BASE).wrapping_add(digit);
     }
-    number.checked_sub(2)
+    number
 }

@@ -1,5 +1,10 @@
 //! The tokens of the first form: words and marks, parted by white space.
-ghost use Rattle.std.specs.Prelude.{◌≡◌, ◌<◌, ◌≤◌, length, IfSome};
+ghost use Rattle.std.specs.Prelude.{◌≡◌, ◌≤◌, ℕ, List, IfNone, IfOk, IfSome, drop, length, take};
+ghost use Rattle.std.specs.List.{AllPass};
+ghost use Rattle.vlog_words.specs.Words.{is_word_byte};
+ghost use Rattle.bm_cli.specs.Tokens.{AreBlank, AreNoTokens, AreTokens, EndsBefore, IsFirst, IsOneTokenList, StartsUnblank, toks};
+ghost use Rattle.bm_cli.specs.declared.netlist.token.TokenKind.{TokenKind};
+ghost use Rattle.bm_cli.specs.declared.netlist.token.TokenKind.TheVariants.{Word};
 
 use bm_base::NoMemory;
 use std::alloc::Global;
@@ -20,7 +25,10 @@ pub struct Token<'a> {
 }
 
 /// The tokens of the source, in order. None where some byte starts no token.
-pub fn tokens<'a>(alloc: Global, source: &'a [u8]) -> Result<Option<Vec<Token<'a>>>, NoMemory> {
+pub fn tokens<'a>(alloc: Global, source: &'a [u8]) -> Result<Option<Vec<Token<'a>>>, NoMemory>
+    ensures spelled { IfOk result (λ found. IfSome found (λ tokens. AreTokens 0 source.now (toks tokens.items))) }
+    ensures refused { IfOk result (λ found. IfNone found (AreNoTokens source.now)) }
+{
     let mut tokens = Vec::new(alloc);
     let mut at = blank_len(source);
     while at < source.len() {
@@ -40,7 +48,9 @@ pub fn tokens<'a>(alloc: Global, source: &'a [u8]) -> Result<Option<Vec<Token<'a
 
 // How many bytes of white space stand at the front.
 fn blank_len(bytes: &[u8]) -> usize
-    ensures { result ≤ length bytes.now }
+    ensures within { result ≤ length bytes.now }
+    ensures blank { AreBlank (take result bytes.now) }
+    ensures ends { StartsUnblank (drop result bytes.now) }
 {
     bytes
         .iter()
@@ -50,7 +60,9 @@ fn blank_len(bytes: &[u8]) -> usize
 
 // The kind of the token at the front, and its length.
 fn first_token(bytes: &[u8]) -> Option<(TokenKind, usize)>
-    ensures { IfSome result (λ found. (0 < found.1) × (found.1 ≤ length bytes.now)) }
+    ensures within { IfSome result (λ found. found.1 ≤ length bytes.now) }
+    ensures first { IfSome result (λ found. IsFirst bytes.now found.0 (take found.1 bytes.now) (drop found.1 bytes.now)) }
+    ensures none { IfNone result ((kind : TokenKind) (text rest : List ℕ) → IsFirst bytes.now kind text rest → ⊥) }
 {
     match bytes {
         [b'(' | b')' | b',' | b';' | b'@', ..] => Some((TokenKind::Mark, 1)),
@@ -62,10 +74,17 @@ fn first_token(bytes: &[u8]) -> Option<(TokenKind, usize)>
 
 // How many bytes at the front may stand in a word.
 fn word_len(bytes: &[u8]) -> usize
-    ensures { result ≤ length bytes.now }
+    ensures within { result ≤ length bytes.now }
+    ensures parts { AllPass is_word_byte (take result bytes.now) }
+    ensures ends { EndsBefore Word (drop result bytes.now) }
 {
     bytes
         .iter()
         .position(|byte| !is_word_byte(*byte))
         .unwrap_or(bytes.len())
 }
+
+// A source is one list of tokens at most.
+fn one_token_list()
+    ensures { IsOneTokenList }
+{}

@@ -1,0 +1,7 @@
+use Rattle.std.proofs.Common.{arith}
+use Rattle.bm_cli.proofs.WaveformLemmas.{one_trace}
+use Rattle.bm_cli.proofs.waveform.a_text_has_one_trace.Goals as goal
+
+pub returns : goal.returns
+returns c = λ rows others some some_others width width_others is is_others.
+    one_trace c.args.labels.now c.requires.scalars c.requires.words c.args.bytes.now (omega arith) rows others some some_others width width_others is is_others
