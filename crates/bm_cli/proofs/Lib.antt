@@ -2,6 +2,9 @@ pub mod CalmLemmas
 pub mod CircuitLemmas
 pub mod ConditionLemmas
 pub mod FileLemmas
+pub mod FormLemmas
+pub mod GrammarLaws
+pub mod GrammarLemmas
 pub mod LineLemmas
 pub mod Scalars
 pub mod SimulationLemmas

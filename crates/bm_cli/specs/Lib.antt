@@ -3,9 +3,13 @@ pub mod Asked
 pub mod Circuit
 pub mod Command
 pub mod Files
+pub mod FirstForm
+pub mod Grammar
+pub mod GrammarReads
 pub mod Minimise
 pub mod Named
 pub mod Printed
+pub mod Roles
 pub mod Simulation
 pub mod Tokens
 pub mod Waveform

@@ -9,6 +9,7 @@ mod conditions;
 mod grammar;
 pub mod simulation;
 mod token;
+mod wiring;
 
 use crate::form::FormFault;
 use crate::words::Names;
@@ -26,5 +27,5 @@ pub fn read(alloc: Global, bytes: &[u8], names: &Names) -> Result<(Circuit, Labe
         return Err(FormFault::Form);
     };
     let design = grammar::design(alloc, &tokens)?;
-    conditions::circuit(alloc, &design, names)
+    wiring::circuit(alloc, &design, names)
 }

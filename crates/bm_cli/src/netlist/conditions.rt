@@ -1,287 +1,547 @@
-//! The conditions of the first form on a tree, and the circuit of a tree that meets them.
-ghost use Rattle.std.specs.Prelude.{◌≡◌, ◌+◌, ◌<◌, All, IfOk, Some, length, map};
+//! The conditions of the first form on a tree.
+ghost use Rattle.std.specs.Prelude.{◌≡◌, ◌↔◌, ◌∷◌, IsTrue, IsErrOf, ◌&&◌, ◌+◌, ◌<◌, All, IfOk, Some, None, cond, [], ◌++◌, length, map, filter_map};
+ghost use Rattle.std.specs.List.{list_all, cons_option};
+ghost use Rattle.std.specs.Str.{bytes_eq};
+ghost use Rattle.std.specs.Option.{option_copied};
+ghost use Rattle.bm_cli.specs.Roles.{name_in, shown};
+ghost use Rattle.bm_cli.specs.FirstForm.{is_plain_item, is_plain_kind, are_gate_outs, are_gate_ins, is_whole_left, is_whole, is_move, declared_name, input_name, output_name, net_name, register_name, driven_name, written_name, taken_name, edge_name, first_left, left_name, whole_name, is_among, are_among, are_distinct, are_other, are_all, is_not_reserved, without, is_known, reads_only, are_reads_known, are_same, are_declared, are_driven, are_written, are_taken, sources, are_free, IsTop, AreFirstForm, IsFirstForm};
 ghost use Rattle.bm_cli.specs.Circuit.{AreInOrder, IsInOrder, ReadsBelow};
 ghost use Rattle.bm_cli.specs.Named.{AreNamed};
 ghost use Rattle.bm_cli.specs.Waveform.{AreScalars};
+ghost use Rattle.bm_cli.specs.declared.form.FormFault.TheVariants.{Form};
+ghost use Rattle.vlog_tree.specs.declared.design.Module.{Module};
 
-use super::circuit::{Circuit, Gate};
 use crate::form::FormFault;
 use crate::words::Names;
-use bm_base::Name;
-use sqlite_items::Items;
 use std::alloc::{AllocError, Global};
-use trace_rows::{Labels, PortLabel};
 use vlog_tree::{Design, Dir, Expr, GateKind, Item, Left, Module, NetKind, Stmt};
 use vlog_words::is_reserved;
 
-/// The names that a module declares, each list in source order.
-#[derive(Drop)]
-struct Declared<'d> {
-    all: Vec<&'d [u8]>,
-    /// Without the clock.
-    inputs: Vec<&'d [u8]>,
-    registers: Vec<&'d [u8]>,
-    /// The wires and the outputs.
-    nets: Vec<&'d [u8]>,
-    outputs: Vec<&'d [u8]>,
-    has_clock: bool,
-}
-
-/// The circuit of a design that meets the conditions.
-pub fn circuit(
-    alloc: Global,
-    design: &Design,
-    names: &Names,
-) -> Result<(Circuit, Labels), FormFault>
-    ensures circuit { IfOk result (λ read. IsInOrder read.0) }
-    ensures ports { IfOk result (λ read. AreScalars read.1.ports × (length read.1.ports ≡ read.0.inputs)) }
-    ensures labels { IfOk result (λ read. AreNamed names.now read.1) }
+fn only_module(design: &Design) -> Result<&Module, FormFault>
+    ensures only { IfOk result (λ top. design.now.modules ≡ top.now ∷ []) }
+    ensures refused { IsErrOf result Form → (top : Module) → design.now.modules ≡ top ∷ [] → ⊥ }
 {
-    let module = only_module(design)?;
-    if module.name.bytes() != names.top.as_bytes() || is_reserved(module.name.bytes()) {
-        return Err(FormFault::Form);
-    }
-    let declared = declare(alloc, module, names.clock.as_bytes())?;
-    if !declared.has_clock || !declared.outputs.contains(&names.check.as_bytes()) {
-        return Err(FormFault::Form);
-    }
-    let mut signals = Vec::from_slice(alloc, &declared.inputs)?;
-    signals.extend_from_slice(&declared.registers)?;
-    let gates = gates(alloc, module, &declared.nets, &mut signals)?;
-    if gates.len() != declared.nets.len() {
-        return Err(FormFault::Form);
-    }
-    let next = next(
-        alloc,
-        module,
-        names.clock.as_bytes(),
-        &declared.registers,
-        &signals,
-    )?;
-    let check = signal(&signals, names.check.as_bytes())?;
-    let labels = labels(alloc, names, &declared.inputs)?;
-    let inputs = declared.inputs.len();
-    Ok((
-        Circuit {
-            inputs,
-            next,
-            gates,
-            check,
-        },
-        labels,
-    ))
-}
-
-fn only_module(design: &Design) -> Result<&Module, FormFault> {
     match design.modules.as_slice() {
         [module] => Ok(module),
         _ => Err(FormFault::Form),
     }
 }
 
-fn declare<'d>(alloc: Global, module: &'d Module, clock: &[u8]) -> Result<Declared<'d>, FormFault> {
-    let mut declared = Declared {
-        all: Vec::new(alloc),
-        inputs: Vec::new(alloc),
-        registers: Vec::new(alloc),
-        nets: Vec::new(alloc),
-        outputs: Vec::new(alloc),
-        has_clock: false,
-    };
-    for item in module.items.as_slice() {
-        match item {
-            Item::Decl {
-                dir,
-                kind,
-                range: None,
-                name,
-                ..
-            } => declared.add(*dir, *kind, name.bytes(), clock)?,
-            Item::Gate { name: None, .. } | Item::Always { .. } => {}
-            _ => return Err(FormFault::Form),
-        }
-    }
-    Ok(declared)
-}
-
-impl<'d> Declared<'d> {
-    fn add(
-        &mut self,
-        dir: Option<Dir>,
-        kind: NetKind,
-        name: &'d [u8],
-        clock: &[u8],
-    ) -> Result<(), FormFault> {
-        if is_reserved(name) || self.all.contains(&name) {
-            return Err(FormFault::Form);
-        }
-        self.all.push(name)?;
-        match (dir, kind) {
-            (Some(Dir::Input), NetKind::Plain) => {
-                if name == clock {
-                    self.has_clock = true;
-                } else {
-                    self.inputs.push(name)?;
-                }
-            }
-            (Some(Dir::Output), NetKind::Plain) => {
-                self.nets.push(name)?;
-                self.outputs.push(name)?;
-            }
-            (None, NetKind::Wire) => self.nets.push(name)?,
-            (None, NetKind::Reg) => self.registers.push(name)?,
-            _ => return Err(FormFault::Form),
-        }
-        Ok(())
-    }
-}
-
-// The gates in source order. Each drives a net that no earlier one drives, and reads signals that stand before it.
-fn gates<'d>(
-    alloc: Global,
-    module: &'d Module,
-    nets: &[&'d [u8]],
-    signals: &mut Vec<&'d [u8]>,
-) -> Result<Vec<Gate>, FormFault>
-    ensures in_order { IfOk result (λ gates. AreInOrder (length signals.old.items) gates.items) }
-    ensures len { IfOk result (λ gates. length signals.new.items ≡ length signals.old.items + length gates.items) }
+// Whether the item is one that the form has.
+fn is_plain(item: &Item) -> bool
+    ensures { result ≡ is_plain_item item.now }
 {
-    let mut gates = Vec::new(alloc);
-    for item in module.items.as_slice() {
-        if let Item::Gate {
+    match item {
+        Item::Decl {
+            dir,
             kind,
+            range: None,
+            ..
+        } => is_plain_decl(*dir, *kind),
+        Item::Gate {
+            kind,
+            name: None,
             outs,
             ins,
             ..
-        } = item
-        {
-            let gate = gate(*kind, ins.as_slice(), signals)?;
-            let out = driven(outs.as_slice())?;
-            if !nets.contains(&out) || signals.contains(&out) {
-                return Err(FormFault::Form);
-            }
-            gates.push(gate)?;
-            signals.push(out)?;
-        }
+        } => are_outs(outs.as_slice()) && are_ins(*kind, ins.as_slice()),
+        Item::Always { body, .. } => is_plain_move(body),
+        _ => false,
     }
-    Ok(gates)
 }
 
-fn gate(kind: GateKind, ins: &[Expr], signals: &[&[u8]]) -> Result<Gate, FormFault>
-    ensures { IfOk result (ReadsBelow (length signals.now)) }
+fn is_plain_decl(dir: Option<Dir>, kind: NetKind) -> bool
+    ensures { result ≡ is_plain_kind dir kind }
 {
-    match (kind, ins) {
-        (GateKind::And, [left, right]) => {
-            let left = signal(signals, read(left)?)?;
-            let right = signal(signals, read(right)?)?;
-            Ok(Gate::And(left, right))
-        }
-        (GateKind::Not, [only]) => Ok(Gate::Not(signal(signals, read(only)?)?)),
-        _ => Err(FormFault::Form),
+    match (dir, kind) {
+        (Some(_), NetKind::Plain) | (None, NetKind::Wire) | (None, NetKind::Reg) => true,
+        _ => false,
     }
 }
 
-// The name that a gate's output is.
-fn driven<'d>(outs: &'d [Left]) -> Result<&'d [u8], FormFault> {
-    match outs {
-        [Left::Whole { name, .. }] => Ok(name.bytes()),
-        _ => Err(FormFault::Form),
+fn are_outs(outs: &[Left]) -> bool
+    ensures { result ≡ are_gate_outs outs.now }
+{
+    outs.len() == 1 && are_left_names(outs)
+}
+
+fn are_left_names(outs: &[Left]) -> bool
+    ensures { result ≡ list_all is_whole_left outs.now }
+{
+    outs.iter().all(|out| is_left_name(out))
+}
+
+fn is_left_name(left: &Left) -> bool
+    ensures { result ≡ is_whole_left left.now }
+{
+    match left {
+        Left::Whole { .. } => true,
+        _ => false,
     }
 }
 
-// The name that an expression is.
-fn read(expr: &Expr) -> Result<&[u8], FormFault> {
+fn are_ins(kind: GateKind, ins: &[Expr]) -> bool
+    ensures { result ≡ are_gate_ins kind ins.now }
+{
+    match kind {
+        GateKind::And => ins.len() == 2 && are_names(ins),
+        GateKind::Not => ins.len() == 1 && are_names(ins),
+        _ => false,
+    }
+}
+
+fn are_names(exprs: &[Expr]) -> bool
+    ensures { result ≡ list_all is_whole exprs.now }
+{
+    exprs.iter().all(|expr| is_name(expr))
+}
+
+fn is_name(expr: &Expr) -> bool
+    ensures { result ≡ is_whole expr.now }
+{
     match expr {
-        Expr::Whole { name, .. } => Ok(name.bytes()),
-        _ => Err(FormFault::Form),
+        Expr::Whole { .. } => true,
+        _ => false,
     }
 }
 
-// The number of the signal with this name.
-fn signal(signals: &[&[u8]], name: &[u8]) -> Result<usize, FormFault>
-    ensures { IfOk result (λ number. number < length signals.now) }
+fn is_plain_move(body: &Stmt) -> bool
+    ensures { result ≡ is_move body.now }
 {
-    signals
-        .iter()
-        .position(|other| *other == name)
-        .ok_or(FormFault::Form)
-}
-
-// For each register the signal that its one `always` gives it.
-fn next(
-    alloc: Global,
-    module: &Module,
-    clock: &[u8],
-    registers: &[&[u8]],
-    signals: &[&[u8]],
-) -> Result<Vec<usize>, FormFault>
-    ensures len { IfOk result (λ next. length next.items ≡ length registers.now) }
-    ensures within { IfOk result (λ next. All (λ signal. signal < length signals.now) next.items) }
-{
-    let mut sources = vec![in alloc; None; registers.len()]?;
-    for item in module.items.as_slice() {
-        if let Item::Always {
-            clock: edge,
-            body,
-            ..
-        } = item
-        {
-            if edge.bytes() != clock {
-                return Err(FormFault::Form);
-            }
-            let (register, source) = moved(body)?;
-            let register = signal(registers, register)?;
-            if sources[register].is_some() {
-                return Err(FormFault::Form);
-            }
-            sources[register] = Some(signal(signals, source)?);
-        }
-    }
-    all_given(alloc, &sources)
-}
-
-// The names of the register that a statement writes and of what it takes over.
-fn moved(body: &Stmt) -> Result<(&[u8], &[u8]), FormFault> {
     match body {
-        Stmt::Set {
-            left: Left::Whole { name, .. },
-            right: Expr::Whole { name: source, .. },
-            ..
-        } => Ok((name.bytes(), source.bytes())),
-        _ => Err(FormFault::Form),
+        Stmt::Set { left, right, .. } => is_left_name(left) && is_name(right),
+        _ => false,
     }
 }
 
-fn all_given(alloc: Global, sources: &[Option<usize>]) -> Result<Vec<usize>, FormFault>
-    ensures { IfOk result (λ given. sources.now ≡ map Some given.items) }
+/// What a name is to its item.
+#[derive(Clone, Copy)]
+pub enum Role {
+    Declared,
+    Input,
+    Output,
+    Net,
+    Register,
+    Driven,
+    Written,
+    Taken,
+    Edge,
+}
+
+// The names that items have in a role, in order.
+pub fn gather<'d>(alloc: Global, items: &'d [Item], role: Role) -> Result<Vec<&'d [u8]>, AllocError>
+    ensures { IfOk result (λ found. map (λ text. text.now) found.items ≡ filter_map (name_in role) items.now) }
 {
-    let mut given = Vec::new(alloc);
-    for source in sources {
-        match source {
-            Some(signal) => given.push(*signal)?,
-            None => return Err(FormFault::Form),
+    let mut found = Vec::new(alloc);
+    for item in items {
+        push_some(&mut found, in_role(item, role))?;
+    }
+    Ok(found)
+}
+
+fn push_some<'d>(names: &mut Vec<&'d [u8]>, name: Option<&'d [u8]>) -> Result<(), AllocError>
+    ensures { IfOk result (λ _. map (λ text. text.now) names.new.items ≡ map (λ text. text.now) names.old.items ++ cons_option (shown name.entry) []) }
+{
+    if let Some(name) = name {
+        names.push(name)?;
+    }
+    Ok(())
+}
+
+fn in_role<'d>(item: &'d Item, role: Role) -> Option<&'d [u8]>
+    ensures { option_copied result ≡ name_in role item.now }
+{
+    match role {
+        Role::Declared => declaration(item),
+        Role::Input => input(item),
+        Role::Output => output(item),
+        Role::Net => net(item),
+        Role::Register => register(item),
+        Role::Driven => gate_output(item),
+        Role::Written => written(item),
+        Role::Taken => taken(item),
+        Role::Edge => edge(item),
+    }
+}
+
+fn declaration(item: &Item) -> Option<&[u8]>
+    ensures { option_copied result ≡ declared_name item.now }
+{
+    match item {
+        Item::Decl { name, .. } => Some(name.bytes()),
+        _ => None,
+    }
+}
+
+fn input(item: &Item) -> Option<&[u8]>
+    ensures { option_copied result ≡ input_name item.now }
+{
+    match item {
+        Item::Decl {
+            dir: Some(Dir::Input),
+            name,
+            ..
+        } => Some(name.bytes()),
+        _ => None,
+    }
+}
+
+fn output(item: &Item) -> Option<&[u8]>
+    ensures { option_copied result ≡ output_name item.now }
+{
+    match item {
+        Item::Decl {
+            dir: Some(Dir::Output),
+            name,
+            ..
+        } => Some(name.bytes()),
+        _ => None,
+    }
+}
+
+fn net(item: &Item) -> Option<&[u8]>
+    ensures { option_copied result ≡ net_name item.now }
+{
+    match item {
+        Item::Decl {
+            dir: Some(Dir::Output),
+            name,
+            ..
+        } => Some(name.bytes()),
+        Item::Decl {
+            kind: NetKind::Wire,
+            name,
+            ..
+        } => Some(name.bytes()),
+        _ => None,
+    }
+}
+
+fn register(item: &Item) -> Option<&[u8]>
+    ensures { option_copied result ≡ register_name item.now }
+{
+    match item {
+        Item::Decl {
+            kind: NetKind::Reg,
+            name,
+            ..
+        } => Some(name.bytes()),
+        _ => None,
+    }
+}
+
+fn gate_output(item: &Item) -> Option<&[u8]>
+    ensures { option_copied result ≡ driven_name item.now }
+{
+    match item {
+        Item::Gate { outs, .. } => first_name(outs.as_slice()),
+        _ => None,
+    }
+}
+
+fn first_name(outs: &[Left]) -> Option<&[u8]>
+    ensures { option_copied result ≡ first_left outs.now }
+{
+    match outs.first() {
+        Some(out) => name_of_left(out),
+        None => None,
+    }
+}
+
+fn name_of_left(left: &Left) -> Option<&[u8]>
+    ensures { option_copied result ≡ left_name left.now }
+{
+    match left {
+        Left::Whole { name, .. } => Some(name.bytes()),
+        _ => None,
+    }
+}
+
+fn name_of(expr: &Expr) -> Option<&[u8]>
+    ensures { option_copied result ≡ whole_name expr.now }
+{
+    match expr {
+        Expr::Whole { name, .. } => Some(name.bytes()),
+        _ => None,
+    }
+}
+
+fn written(item: &Item) -> Option<&[u8]>
+    ensures { option_copied result ≡ written_name item.now }
+{
+    match item {
+        Item::Always {
+            body: Stmt::Set { left, .. },
+            ..
+        } => name_of_left(left),
+        _ => None,
+    }
+}
+
+fn taken(item: &Item) -> Option<&[u8]>
+    ensures { option_copied result ≡ taken_name item.now }
+{
+    match item {
+        Item::Always {
+            body: Stmt::Set { right, .. },
+            ..
+        } => name_of(right),
+        _ => None,
+    }
+}
+
+fn edge(item: &Item) -> Option<&[u8]>
+    ensures { option_copied result ≡ edge_name item.now }
+{
+    match item {
+        Item::Always { clock, .. } => Some(clock.bytes()),
+        _ => None,
+    }
+}
+
+fn has(names: &[&[u8]], name: &[u8]) -> bool
+    ensures { result ≡ is_among (map (λ text. text.now) names.now) name.now }
+{
+    names.iter().any(|other| *other == name)
+}
+
+fn has_all(names: &[&[u8]], others: &[&[u8]]) -> bool
+    ensures { result ≡ are_among (map (λ text. text.now) names.now) (map (λ text. text.now) others.now) }
+{
+    names.iter().all(|name| has(others, name))
+}
+
+fn differ(names: &[&[u8]]) -> bool
+    ensures { result ≡ are_distinct (map (λ text. text.now) names.now) }
+{
+    for i in 0..names.len() {
+        if has(&names[i + 1..], names[i]) {
+            return false;
         }
     }
-    Ok(given)
+    true
 }
 
-fn labels(alloc: Global, names: &Names, inputs: &[&[u8]]) -> Result<Labels, FormFault>
-    ensures scalars { IfOk result (λ labels. AreScalars labels.ports) }
-    ensures len { IfOk result (λ labels. length labels.ports ≡ length inputs.now) }
-    ensures names { IfOk result (AreNamed names.now) }
+fn lacks(names: &[&[u8]], name: &[u8]) -> bool
+    ensures { result ≡ are_other name.now (map (λ text. text.now) names.now) }
 {
-    let mut ports = Items::new(alloc);
-    for name in inputs {
-        ports.push(PortLabel {
-            name: Name::new(alloc, name)?,
-            width: 1,
-            range: None,
-        })?;
+    names.iter().all(|other| *other != name)
+}
+
+fn are_equal(names: &[&[u8]], name: &[u8]) -> bool
+    ensures { result ≡ are_all name.now (map (λ text. text.now) names.now) }
+{
+    names.iter().all(|other| *other == name)
+}
+
+fn are_unreserved(names: &[&[u8]]) -> bool
+    ensures { result ≡ list_all is_not_reserved (map (λ text. text.now) names.now) }
+{
+    names.iter().all(|name| !is_reserved(name))
+}
+
+// The names that are others, in order.
+pub fn others<'d>(
+    alloc: Global,
+    names: &[&'d [u8]],
+    name: &[u8],
+) -> Result<Vec<&'d [u8]>, AllocError>
+    ensures { IfOk result (λ found. map (λ text. text.now) found.items ≡ without name.now (map (λ text. text.now) names.now)) }
+{
+    let mut found = Vec::new(alloc);
+    for other in names {
+        push_some(&mut found, if_other(*other, name))?;
     }
-    Ok(Labels {
-        top: Name::new(alloc, names.top.as_bytes())?,
-        clock: Name::new(alloc, names.clock.as_bytes())?,
-        check: Name::new(alloc, names.check.as_bytes())?,
-        ports,
-    })
+    Ok(found)
+}
+
+fn if_other<'d>(other: &'d [u8], name: &[u8]) -> Option<&'d [u8]>
+    ensures { option_copied result ≡ cond (bytes_eq other.now name.now) None (Some other.now) }
+{
+    if other == name { None } else { Some(other) }
+}
+
+fn are_same_names(names: &[&[u8]], others: &[&[u8]]) -> bool
+    ensures { result ≡ are_same (map (λ text. text.now) names.now) (map (λ text. text.now) others.now) }
+{
+    has_all(names, others) && has_all(others, names)
+}
+
+// Whether each gate reads these names and those that earlier gates drive.
+fn reads_are_known<'d>(
+    alloc: Global,
+    items: &'d [Item],
+    known: &[&'d [u8]],
+) -> Result<bool, AllocError>
+    ensures { IfOk result (λ holds. holds ≡ are_reads_known (map (λ text. text.now) known.now) items.now) }
+{
+    let mut so_far = Vec::from_slice(alloc, known)?;
+    for item in items {
+        if !reads_among(item, &so_far) {
+            return Ok(false);
+        }
+        push_some(&mut so_far, gate_output(item))?;
+    }
+    Ok(true)
+}
+
+fn reads_among(item: &Item, known: &[&[u8]]) -> bool
+    ensures { result ≡ reads_only (map (λ text. text.now) known.now) item.now }
+{
+    match item {
+        Item::Gate { ins, .. } => all_known(ins.as_slice(), known),
+        _ => true,
+    }
+}
+
+fn all_known(ins: &[Expr], known: &[&[u8]]) -> bool
+    ensures { result ≡ list_all (is_known (map (λ text. text.now) known.now)) ins.now }
+{
+    ins.iter().all(|input| names_known(input, known))
+}
+
+fn names_known(input: &Expr, known: &[&[u8]]) -> bool
+    ensures { result ≡ is_known (map (λ text. text.now) known.now) input.now }
+{
+    match input {
+        Expr::Whole { name, .. } => has(known, name.bytes()),
+        _ => false,
+    }
+}
+
+fn all_plain(items: &[Item]) -> bool
+    ensures { result ≡ list_all is_plain_item items.now }
+{
+    items.iter().all(|item| is_plain(item))
+}
+
+// Whether the items meet the conditions.
+fn meets(alloc: Global, items: &[Item], names: &Names) -> Result<bool, AllocError>
+    ensures { IfOk result (λ holds. IsTrue holds ↔ AreFirstForm names.now items.now) }
+{
+    let clock = names.clock.as_bytes();
+    let declared = declares_well(alloc, items, clock, names.check.as_bytes())?;
+    let driven = drives_well(alloc, items)?;
+    let written = writes_well(alloc, items)?;
+    let read = reads_well(alloc, items, clock)?;
+    let taken = takes_well(alloc, items, clock)?;
+    let plain = all_plain(items);
+    Ok(all_six(plain, declared, driven, written, read, taken))
+}
+
+fn all_six(
+    plain: bool,
+    declared: bool,
+    driven: bool,
+    written: bool,
+    read: bool,
+    taken: bool,
+) -> bool
+    ensures { result ≡ (plain && (declared && (driven && (written && (read && taken))))) }
+{
+    plain && declared && driven && written && read && taken
+}
+
+// The one module of a design of the form.
+pub fn form_module<'d>(
+    alloc: Global,
+    design: &'d Design,
+    names: &Names,
+) -> Result<&'d Module, FormFault>
+    ensures form { IfOk result (λ _. IsFirstForm names.now design.now) }
+    ensures refused { IsErrOf result Form → IsFirstForm names.now design.now → ⊥ }
+{
+    let module = only_module(design)?;
+    let named = is_top(module.name.bytes(), names.top.as_bytes());
+    let holds = meets(alloc, module.items.as_slice(), names)?;
+    if named && holds {
+        Ok(module)
+    } else {
+        Err(FormFault::Form)
+    }
+}
+
+fn is_top(name: &[u8], top: &[u8]) -> bool
+    ensures { IsTrue result ↔ IsTop name.now top.now }
+{
+    name == top && !is_reserved(name)
+}
+
+fn declares_well(
+    alloc: Global,
+    items: &[Item],
+    clock: &[u8],
+    check: &[u8],
+) -> Result<bool, AllocError>
+    ensures { IfOk result (λ holds. holds ≡ are_declared clock.now check.now items.now) }
+{
+    let declared = gather(alloc, items, Role::Declared)?;
+    let inputs = gather(alloc, items, Role::Input)?;
+    let outputs = gather(alloc, items, Role::Output)?;
+    Ok(are_ports(&declared, &inputs, &outputs, clock, check))
+}
+
+fn are_ports(
+    declared: &[&[u8]],
+    inputs: &[&[u8]],
+    outputs: &[&[u8]],
+    clock: &[u8],
+    check: &[u8],
+) -> bool
+    ensures { result ≡ (are_free (map (λ text. text.now) declared.now) && (are_distinct (map (λ text. text.now) declared.now) && (is_among (map (λ text. text.now) inputs.now) clock.now && is_among (map (λ text. text.now) outputs.now) check.now))) }
+{
+    are_unreserved(declared) && differ(declared) && has(inputs, clock) && has(outputs, check)
+}
+
+fn drives_well(alloc: Global, items: &[Item]) -> Result<bool, AllocError>
+    ensures { IfOk result (λ holds. holds ≡ are_driven items.now) }
+{
+    let driven = gather(alloc, items, Role::Driven)?;
+    let nets = gather(alloc, items, Role::Net)?;
+    Ok(differ(&driven) && are_same_names(&driven, &nets))
+}
+
+fn writes_well(alloc: Global, items: &[Item]) -> Result<bool, AllocError>
+    ensures { IfOk result (λ holds. holds ≡ are_written items.now) }
+{
+    let written = gather(alloc, items, Role::Written)?;
+    let registers = gather(alloc, items, Role::Register)?;
+    Ok(differ(&written) && are_same_names(&written, &registers))
+}
+
+fn reads_well(alloc: Global, items: &[Item], clock: &[u8]) -> Result<bool, AllocError>
+    ensures { IfOk result (λ holds. holds ≡ are_reads_known (sources clock.now items.now) items.now) }
+{
+    let inputs = gather(alloc, items, Role::Input)?;
+    let inputs = others(alloc, &inputs, clock)?;
+    let registers = gather(alloc, items, Role::Register)?;
+    let sources = joined(alloc, &inputs, &registers)?;
+    reads_are_known(alloc, items, &sources)
+}
+
+fn takes_well(alloc: Global, items: &[Item], clock: &[u8]) -> Result<bool, AllocError>
+    ensures { IfOk result (λ holds. holds ≡ are_taken clock.now items.now) }
+{
+    let taken = gather(alloc, items, Role::Taken)?;
+    let declared = gather(alloc, items, Role::Declared)?;
+    let edges = gather(alloc, items, Role::Edge)?;
+    Ok(are_moves(&taken, &declared, &edges, clock))
+}
+
+fn are_moves(taken: &[&[u8]], declared: &[&[u8]], edges: &[&[u8]], clock: &[u8]) -> bool
+    ensures { result ≡ (are_among (map (λ text. text.now) taken.now) (map (λ text. text.now) declared.now) && (are_other clock.now (map (λ text. text.now) taken.now) && are_all clock.now (map (λ text. text.now) edges.now))) }
+{
+    has_all(taken, declared) && lacks(taken, clock) && are_equal(edges, clock)
+}
+
+fn joined<'d>(
+    alloc: Global,
+    first: &[&'d [u8]],
+    second: &[&'d [u8]],
+) -> Result<Vec<&'d [u8]>, AllocError>
+    ensures { IfOk result (λ both. map (λ text. text.now) both.items ≡ map (λ text. text.now) first.now ++ map (λ text. text.now) second.now) }
+{
+    let mut both = Vec::from_slice(alloc, first)?;
+    both.extend_from_slice(second)?;
+    Ok(both)
 }

@@ -1,6 +1,11 @@
 //! The grammar of the first form, one function for each rule.
 
-ghost use Rattle.std.specs.Prelude.{◌<◌, ◌≤◌, length, OnOk};
+ghost use Rattle.std.specs.Prelude.{◌≡◌, ◌<◌, ◌≤◌, ◌↔◌, length, IfOk, IsErrOf, IsTrue, OnOk, bytes_eq, codes};
+ghost use Rattle.vlog_tree.specs.declared.design.Design.{Design as Tree};
+ghost use Rattle.bm_cli.specs.Grammar.{SpellsDesign};
+ghost use Rattle.bm_cli.specs.GrammarReads as spec;
+ghost use Rattle.bm_cli.specs.GrammarReads.{Reads, ReadsAll, ReadsInto, ReadsToken};
+ghost use Rattle.bm_cli.specs.Tokens.{Tok, tok_of, toks};
 
 use super::token::{Token, TokenKind};
 use crate::form::FormFault;
@@ -16,11 +21,14 @@ pub struct Cursor<'t, 'a> {
 }
 
 impl<'t, 'a> Cursor<'t, 'a> {
-    pub fn new(tokens: &'t [Token<'a>]) -> Cursor<'t, 'a> {
+    pub fn new(tokens: &'t [Token<'a>]) -> Cursor<'t, 'a>
+        ensures { result.rest.now ≡ tokens.now }
+    {
         Cursor { rest: tokens }
     }
 
     fn next(&mut self) -> Result<Token<'a>, FormFault>
+        ensures reads { ReadsToken (spec.read_next (toks self.old.rest.now)) result (toks self.new.rest.now) }
         ensures consumes { OnOk result (length self.new.rest.now < length self.old.rest.now) }
     {
         match self.rest {
@@ -33,7 +41,9 @@ impl<'t, 'a> Cursor<'t, 'a> {
     }
 
     // Whether the next token is this word or mark.
-    fn sees(&self, text: &str) -> bool {
+    fn sees(&self, text: &str) -> bool
+        ensures { result ≡ spec.sees text.now (toks self.now.rest.now) }
+    {
         match self.rest {
             [first, ..] => is_text(first.text, text),
             [] => false,
@@ -41,7 +51,9 @@ impl<'t, 'a> Cursor<'t, 'a> {
     }
 
     // The place of the next token, which has to be this word or mark.
+    #[tactic(auto, unfolding(crate::specs::GrammarReads::read_expect))]
     fn expect(&mut self, text: &str) -> Result<u64, FormFault>
+        ensures reads { Reads (spec.read_expect text.now (toks self.old.rest.now)) result (toks self.new.rest.now) }
         ensures consumes { OnOk result (length self.new.rest.now < length self.old.rest.now) }
     {
         let token = self.next()?;
@@ -53,7 +65,9 @@ impl<'t, 'a> Cursor<'t, 'a> {
     }
 
     // The next token, which has to be a word.
+    #[tactic(auto, unfolding(crate::specs::GrammarReads::read_word))]
     fn word(&mut self) -> Result<Token<'a>, FormFault>
+        ensures reads { ReadsToken (spec.read_word (toks self.old.rest.now)) result (toks self.new.rest.now) }
         ensures consumes { OnOk result (length self.new.rest.now < length self.old.rest.now) }
     {
         let token = self.next()?;
@@ -64,12 +78,25 @@ impl<'t, 'a> Cursor<'t, 'a> {
     }
 }
 
-fn is_text(found: &[u8], text: &str) -> bool {
+fn is_text(found: &[u8], text: &str) -> bool
+    ensures { result ≡ bytes_eq found.now text.now }
+{
     found == text.as_bytes()
 }
 
 /// `design = "module" name "(" port ("," port)* ")" ";" item* "endmodule"`, and then nothing.
-pub fn design(alloc: Global, tokens: &[Token]) -> Result<Design, FormFault> {
+pub fn design(alloc: Global, tokens: &[Token]) -> Result<Design, FormFault>
+    ensures reads { ReadsAll (spec.read_design (toks tokens.now)) result }
+    ensures only { IfOk result (λ found. (design : Tree) → SpellsDesign (toks tokens.now) design → design ≡ found) }
+    ensures refused { IsErrOf result FormFault.Form → (design : Tree) → SpellsDesign (toks tokens.now) design → ⊥ }
+{
+    one_module(alloc, tokens)
+}
+
+#[tactic(auto, unfolding(crate::specs::GrammarReads::read_design))]
+fn one_module(alloc: Global, tokens: &[Token]) -> Result<Design, FormFault>
+    ensures reads { ReadsAll (spec.read_design (toks tokens.now)) result }
+{
     let mut cursor = Cursor::new(tokens);
     let module = module(alloc, &mut cursor)?;
     if !cursor.rest.is_empty() {
@@ -80,15 +107,18 @@ pub fn design(alloc: Global, tokens: &[Token]) -> Result<Design, FormFault> {
     Ok(Design { modules })
 }
 
-fn module(alloc: Global, cursor: &mut Cursor) -> Result<Module, FormFault> {
+#[tactic(auto, unfolding(crate::specs::GrammarReads::read_module))]
+fn module(alloc: Global, cursor: &mut Cursor) -> Result<Module, FormFault>
+    ensures reads { Reads (spec.read_module (toks cursor.old.rest.now)) result (toks cursor.new.rest.now) }
+{
     let at = cursor.expect("module")?;
     let name = name(alloc, cursor)?;
-    let mut ports = Items::new(alloc);
-    let mut items = Items::new(alloc);
     cursor.expect("(")?;
-    header(alloc, cursor, &mut ports, &mut items)?;
+    let mut ports = Items::new(alloc);
+    let mut declared = Items::new(alloc);
+    header(alloc, cursor, &mut ports, &mut declared)?;
     cursor.expect(";")?;
-    body(alloc, cursor, &mut items)?;
+    let items = body(alloc, cursor, declared)?;
     Ok(Module {
         at,
         name,
@@ -103,7 +133,9 @@ fn header(
     cursor: &mut Cursor,
     ports: &mut Items<Name>,
     items: &mut Items<Item>,
-) -> Result<(), FormFault> {
+) -> Result<(), FormFault>
+    ensures reads { ReadsInto (spec.read_header ports.old items.old (toks cursor.old.rest.now)) result ports.new items.new (toks cursor.new.rest.now) }
+{
     port(alloc, cursor, ports, items)?;
     while cursor.sees(",") {
         cursor.expect(",")?;
@@ -114,12 +146,14 @@ fn header(
 }
 
 // `port = ("input" | "output") name`
+#[tactic(auto, unfolding(crate::specs::GrammarReads::add_port, crate::specs::GrammarReads::read_port))]
 fn port(
     alloc: Global,
     cursor: &mut Cursor,
     ports: &mut Items<Name>,
     items: &mut Items<Item>,
 ) -> Result<(), FormFault>
+    ensures reads { ReadsInto (spec.add_port ports.old items.old (toks cursor.old.rest.now)) result ports.new items.new (toks cursor.new.rest.now) }
     ensures consumes { OnOk result (length cursor.new.rest.now < length cursor.old.rest.now) }
 {
     let dir = direction(cursor)?;
@@ -135,10 +169,12 @@ fn port(
     Ok(())
 }
 
+#[tactic(auto, unfolding(crate::specs::GrammarReads::read_direction))]
 fn direction(cursor: &mut Cursor) -> Result<Dir, FormFault>
+    ensures reads { Reads (spec.read_direction (toks cursor.old.rest.now)) result (toks cursor.new.rest.now) }
     ensures consumes { OnOk result (length cursor.new.rest.now < length cursor.old.rest.now) }
 {
-    let word = cursor.word()?;
+    let word = cursor.next()?;
     if is_text(word.text, "input") {
         Ok(Dir::Input)
     } else if is_text(word.text, "output") {
@@ -148,20 +184,25 @@ fn direction(cursor: &mut Cursor) -> Result<Dir, FormFault>
     }
 }
 
-// The items up to `endmodule`.
-fn body(alloc: Global, cursor: &mut Cursor, items: &mut Items<Item>) -> Result<(), FormFault> {
+// The items up to `endmodule`, after those that were declared.
+fn body(alloc: Global, cursor: &mut Cursor, declared: Items<Item>) -> Result<Items<Item>, FormFault>
+    ensures reads { Reads (spec.read_body declared (toks cursor.old.rest.now)) result (toks cursor.new.rest.now) }
+{
+    let mut items = declared;
     while !cursor.sees("endmodule") {
         let item = item(alloc, cursor)?;
         items.push(item)?;
     }
     cursor.expect("endmodule")?;
-    Ok(())
+    Ok(items)
 }
 
+#[tactic(auto, unfolding(crate::specs::GrammarReads::read_item))]
 fn item(alloc: Global, cursor: &mut Cursor) -> Result<Item, FormFault>
+    ensures reads { Reads (spec.read_item (toks cursor.old.rest.now)) result (toks cursor.new.rest.now) }
     ensures consumes { OnOk result (length cursor.new.rest.now < length cursor.old.rest.now) }
 {
-    let word = cursor.word()?;
+    let word = cursor.next()?;
     if is_text(word.text, "wire") {
         declaration(alloc, cursor, NetKind::Wire)
     } else if is_text(word.text, "reg") {
@@ -178,7 +219,9 @@ fn item(alloc: Global, cursor: &mut Cursor) -> Result<Item, FormFault>
 }
 
 // `("wire" | "reg") name ";"`, after its first word.
+#[tactic(auto, unfolding(crate::specs::GrammarReads::read_declaration))]
 fn declaration(alloc: Global, cursor: &mut Cursor, kind: NetKind) -> Result<Item, FormFault>
+    ensures reads { Reads (spec.read_declaration kind (toks cursor.old.rest.now)) result (toks cursor.new.rest.now) }
     ensures consumes { OnOk result (length cursor.new.rest.now < length cursor.old.rest.now) }
 {
     let word = cursor.word()?;
@@ -193,7 +236,9 @@ fn declaration(alloc: Global, cursor: &mut Cursor, kind: NetKind) -> Result<Item
 }
 
 // `"and" "(" name "," name "," name ")" ";"`, after its first word.
+#[tactic(auto, unfolding(crate::specs::GrammarReads::read_and))]
 fn and_gate(alloc: Global, cursor: &mut Cursor) -> Result<Item, FormFault>
+    ensures reads { Reads (spec.read_and (toks cursor.old.rest.now)) result (toks cursor.new.rest.now) }
     ensures consumes { OnOk result (length cursor.new.rest.now < length cursor.old.rest.now) }
 {
     let at = cursor.expect("(")?;
@@ -219,7 +264,9 @@ fn and_gate(alloc: Global, cursor: &mut Cursor) -> Result<Item, FormFault>
 }
 
 // `"not" "(" name "," name ")" ";"`, after its first word.
+#[tactic(auto, unfolding(crate::specs::GrammarReads::read_not))]
 fn not_gate(alloc: Global, cursor: &mut Cursor) -> Result<Item, FormFault>
+    ensures reads { Reads (spec.read_not (toks cursor.old.rest.now)) result (toks cursor.new.rest.now) }
     ensures consumes { OnOk result (length cursor.new.rest.now < length cursor.old.rest.now) }
 {
     let at = cursor.expect("(")?;
@@ -242,7 +289,9 @@ fn not_gate(alloc: Global, cursor: &mut Cursor) -> Result<Item, FormFault>
 }
 
 // `"always" "@" "(" "posedge" name ")" name "<=" name ";"`, after its first word, which stands at `at`.
+#[tactic(auto, unfolding(crate::specs::GrammarReads::read_always))]
 fn always(alloc: Global, cursor: &mut Cursor, at: u64) -> Result<Item, FormFault>
+    ensures reads { Reads (spec.read_always at (toks cursor.old.rest.now)) result (toks cursor.new.rest.now) }
     ensures consumes { OnOk result (length cursor.new.rest.now < length cursor.old.rest.now) }
 {
     cursor.expect("@")?;
@@ -255,7 +304,9 @@ fn always(alloc: Global, cursor: &mut Cursor, at: u64) -> Result<Item, FormFault
 }
 
 // `name "<=" name ";"`
+#[tactic(auto, unfolding(crate::specs::GrammarReads::read_set))]
 fn set(alloc: Global, cursor: &mut Cursor) -> Result<Stmt, FormFault>
+    ensures reads { Reads (spec.read_set (toks cursor.old.rest.now)) result (toks cursor.new.rest.now) }
     ensures consumes { OnOk result (length cursor.new.rest.now < length cursor.old.rest.now) }
 {
     let word = cursor.word()?;
@@ -270,7 +321,9 @@ fn set(alloc: Global, cursor: &mut Cursor) -> Result<Stmt, FormFault>
     })
 }
 
+#[tactic(auto, unfolding(crate::specs::GrammarReads::read_name))]
 fn name(alloc: Global, cursor: &mut Cursor) -> Result<Name, FormFault>
+    ensures reads { Reads (spec.read_name (toks cursor.old.rest.now)) result (toks cursor.new.rest.now) }
     ensures consumes { OnOk result (length cursor.new.rest.now < length cursor.old.rest.now) }
 {
     let word = cursor.word()?;
@@ -278,7 +331,9 @@ fn name(alloc: Global, cursor: &mut Cursor) -> Result<Name, FormFault>
 }
 
 // A name that is assigned.
+#[tactic(auto, unfolding(crate::specs::GrammarReads::read_left))]
 fn left(alloc: Global, cursor: &mut Cursor) -> Result<Left, FormFault>
+    ensures reads { Reads (spec.read_left (toks cursor.old.rest.now)) result (toks cursor.new.rest.now) }
     ensures consumes { OnOk result (length cursor.new.rest.now < length cursor.old.rest.now) }
 {
     let word = cursor.word()?;
@@ -289,7 +344,9 @@ fn left(alloc: Global, cursor: &mut Cursor) -> Result<Left, FormFault>
 }
 
 // A name that is read.
+#[tactic(auto, unfolding(crate::specs::GrammarReads::read_whole))]
 fn whole(alloc: Global, cursor: &mut Cursor) -> Result<Expr, FormFault>
+    ensures reads { Reads (spec.read_whole (toks cursor.old.rest.now)) result (toks cursor.new.rest.now) }
     ensures consumes { OnOk result (length cursor.new.rest.now < length cursor.old.rest.now) }
 {
     let word = cursor.word()?;

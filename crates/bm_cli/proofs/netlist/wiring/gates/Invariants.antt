@@ -1,6 +1,6 @@
 use Rattle.std.proofs.Common.{◌≡◌, ◌+◌, length}
 use Rattle.bm_cli.specs.Circuit.{AreInOrder}
-use Rattle.bm_cli.proofs.netlist.conditions.gates.Given as goal
+use Rattle.bm_cli.proofs.netlist.wiring.gates.Given as goal
 
 abbrev pub invariant-loop-item : goal.invariant-loop-item
 invariant-loop-item l = record {

@@ -2,7 +2,7 @@ use Rattle.std.proofs.Common.{◌<◌, length}
 use Rattle.std.proofs.lemmas.List.Elements.{All-same}
 use Rattle.std.specs.Option.{IfSome}
 use Rattle.bm_cli.proofs.ConditionLemmas.{given_within}
-use Rattle.bm_cli.proofs.netlist.conditions.next.Goals as goal
+use Rattle.bm_cli.proofs.netlist.wiring.next.Goals as goal
 
 pub returns-clause-within : goal.returns-clause-within
 returns-clause-within c =

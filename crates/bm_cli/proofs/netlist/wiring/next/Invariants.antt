@@ -1,6 +1,6 @@
 use Rattle.std.proofs.Common.{◌≡◌, ◌<◌, All, length}
 use Rattle.std.specs.Option.{IfSome}
-use Rattle.bm_cli.proofs.netlist.conditions.next.Given as goal
+use Rattle.bm_cli.proofs.netlist.wiring.next.Given as goal
 
 abbrev pub invariant-loop-item : goal.invariant-loop-item
 invariant-loop-item l = record {

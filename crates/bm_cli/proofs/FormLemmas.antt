@@ -1,0 +1,43 @@
+-- Lemmas on the conditions of the first form.
+use Rattle.std.proofs.Common.{◌≡◌, ℕ, ◌+◌, ◌<◌, List, [], ◌∷◌, ◌++◌, Bool, ◌||◌, Option, map, take, get_or, length, filter_map, ◌&&◌, true, false, IsTrue, ◌↔◌, drop, Some, slice_get, refl, ap, ◌∙◌, sym}
+use Rattle.std.specs.List.{list_any, cons_option}
+use Rattle.std.proofs.lemmas.Bool.{false≢true}
+use Rattle.bm_cli.specs.FirstForm.{AreFirstForm, is_plain_item, are_declared, are_driven, are_written, are_taken, are_reads_known, sources}
+use Rattle.bm_cli.specs.declared.words.Names.{Names}
+use Rattle.vlog_tree.specs.declared.item.Item.{Item}
+use Rattle.std.specs.List.{list_all}
+use Rattle.std.proofs.lemmas.List.{take_more}
+use Rattle.std.proofs.lemmas.List.Elements.{filter_map-append}
+
+pub list_any-map : {X Y : Type 0} (p : Y → Bool) (f : X → Y) (xs : List X) → list_any p (map f xs) ≡ list_any (λ x. p (f x)) xs
+list_any-map p f [] = refl
+list_any-map p f (x ∷ xs) = ap (λ b. p (f x) || b) (list_any-map p f xs)
+
+-- one more item is looked at
+pub filter_map-more : {X Y : Type 0} (h : X → Option Y) (xs : List X) (i : ℕ) (d : X) → i < length xs → filter_map h (take (i + 1) xs) ≡ filter_map h (take i xs) ++ cons_option (h (get_or xs i d)) []
+filter_map-more h xs i d within = ap (filter_map h) (take_more xs i d within) ∙ filter_map-append h (take i xs) (get_or xs i d ∷ [])
+
+both : (a b : Bool) → (a && b) ≡ true → (a ≡ true) × (b ≡ true)
+both true b h = (refl, h)
+both false b h = absurd (false≢true h)
+
+meet : (a b : Bool) → a ≡ true → b ≡ true → (a && b) ≡ true
+meet true b h k = k
+meet false b h k = h
+
+-- the six tests are the conditions
+pub AreFirstForm-tests : (names : Names) (items : List Item) (r p d v w k t : Bool)
+    → r ≡ (p && (d && (v && (w && (k && t)))))
+    → p ≡ list_all is_plain_item items → d ≡ are_declared names.clock.now names.check.now items → v ≡ are_driven items → w ≡ are_written items
+    → k ≡ are_reads_known (sources names.clock.now items) items → t ≡ are_taken names.clock.now items
+    → IsTrue r ↔ AreFirstForm names items
+AreFirstForm-tests names items r p d v w k t is pe de ve we ke te = (
+  λ h.
+      let a : (p ≡ true) × ((d && (v && (w && (k && t)))) ≡ true) = both p _ (sym is ∙ h) in
+      let b : (d ≡ true) × ((v && (w && (k && t))) ≡ true) = both d _ a.1 in
+      let e : (v ≡ true) × ((w && (k && t)) ≡ true) = both v _ b.1 in
+      let f : (w ≡ true) × ((k && t) ≡ true) = both w _ e.1 in
+      let g : (k ≡ true) × (t ≡ true) = both k _ f.1 in
+      record { plain = sym pe ∙ a.0; declared = sym de ∙ b.0; driven = sym ve ∙ e.0; written = sym we ∙ f.0; reads = sym ke ∙ g.0; taken = sym te ∙ g.1 },
+  λ h. is ∙ meet p _ (pe ∙ h.plain) (meet d _ (de ∙ h.declared) (meet v _ (ve ∙ h.driven) (meet w _ (we ∙ h.written) (meet k t (ke ∙ h.reads) (te ∙ h.taken))))),
+)
