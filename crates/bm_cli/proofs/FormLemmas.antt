@@ -3,7 +3,7 @@ use Rattle.std.proofs.Common.{◌≡◌, ℕ, ◌+◌, ◌<◌, List, [], ◌∷
 use Rattle.std.specs.List.{list_any, cons_option}
 use Rattle.std.proofs.lemmas.Bool.{false≢true}
 use Rattle.bm_cli.specs.FirstForm.{AreFirstForm, is_plain_item, are_declared, are_driven, are_written, are_taken, are_reads_known, sources}
-use Rattle.bm_cli.specs.declared.words.Names.{Names}
+use Rattle.bm_cli.specs.TopNames.{TopNames}
 use Rattle.vlog_tree.specs.declared.item.Item.{Item}
 use Rattle.std.specs.List.{list_all}
 use Rattle.std.proofs.lemmas.List.{take_more}
@@ -26,10 +26,10 @@ meet true b h k = k
 meet false b h k = h
 
 -- the six tests are the conditions
-pub AreFirstForm-tests : (names : Names) (items : List Item) (r p d v w k t : Bool)
+pub AreFirstForm-tests : (names : TopNames) (items : List Item) (r p d v w k t : Bool)
     → r ≡ (p && (d && (v && (w && (k && t)))))
-    → p ≡ list_all is_plain_item items → d ≡ are_declared names.clock.now names.check.now items → v ≡ are_driven items → w ≡ are_written items
-    → k ≡ are_reads_known (sources names.clock.now items) items → t ≡ are_taken names.clock.now items
+    → p ≡ list_all is_plain_item items → d ≡ are_declared names.clock names.check items → v ≡ are_driven items → w ≡ are_written items
+    → k ≡ are_reads_known (sources names.clock items) items → t ≡ are_taken names.clock items
     → IsTrue r ↔ AreFirstForm names items
 AreFirstForm-tests names items r p d v w k t is pe de ve we ke te = (
   λ h.

@@ -4,7 +4,7 @@ use Rattle.std.proofs.lemmas.Bool.{cases_lt}
 use Rattle.std.specs.Int.Digits.{digits_of}
 use Rattle.std.specs.List.{All, AllByRecursion}
 use Rattle.std.proofs.lemmas.Int.Digits.{digits_of_step}
-use Rattle.std.proofs.lemmas.List.{reverse-append, length-append, length-replicate, set_at}
+use Rattle.std.proofs.lemmas.List.{reverse-append, length-append, length-replicate, length-set, set_at}
 use Rattle.std.proofs.lemmas.Bool.Decides.{nat_tests}
 use Rattle.std.specs.Prelude.{◌==◌, if◌then◌else◌, nat_lt}
 use Rattle.trace_rows.specs.declared.labels.Labels.{Labels}
@@ -14,9 +14,9 @@ use Rattle.vcd_writer.specs.Code.{code_of, digit_byte, first_port, clock_code}
 use Rattle.vcd_writer.specs.Value.{bit_digit, value_line, port_value_lines, port_change_lines, scalar_line, port_change}
 use Rattle.vcd_writer.specs.Waveform.{blocks, edge_block, first_block, later_blocks, row_block, vcd}
 use Rattle.bm_cli.specs.Waveform.{AreScalars, AreWords}
-use Rattle.bm_cli.specs.WaveformLines.{lines_of, number_of, is_edge_line, row_after, rows_of_lines}
+use Rattle.bm_cli.specs.WaveformLines.{lines_of, number_of, is_bit_digit, is_edge_line, row_after, rows_of_lines}
 use Rattle.bm_cli.proofs.LineLemmas.{lines_of-text_of, lines_waveform}
-use Rattle.std.proofs.lemmas.List.Elements.{recursion_from_All}
+use Rattle.std.proofs.lemmas.List.Elements.{All-cons, All-nil, recursion_from_All}
 use Rattle.vcd_writer.specs.Line.{text_of}
 
 -- The code of a number, by its least digit.
@@ -215,6 +215,22 @@ rows_of_vcd labels h (row ∷ rows) zeros some er ez fits =
 
 some_more : (row : List Bool) (rows : List (List Bool)) → 0 < length (row ∷ rows)
 some_more row rows = omega arith
+
+row_after-length : (row : List Bool) (line : List ℕ) → length (row_after row line) ≡ length row
+row_after-length row [] = refl
+row_after-length row (digit ∷ code) =
+    let sets : Bool = is_bit_digit digit && nat_lt 1 (number_of code) && nat_lt (number_of code - 2) (length row) in
+    elim sets as (λ b. length (if b then set row (number_of code - 2) (digit == 49) else row) ≡ length row)
+    [ true ↦ length-set row (number_of code - 2) (digit == 49) | false ↦ refl ]
+
+-- The rows are as wide as the first one.
+pub rows_of_lines_widths : (n : ℕ) (lines : List (List ℕ)) (row : List Bool) → length row ≡ n → All (λ r. length r ≡ n) (rows_of_lines row lines)
+rows_of_lines_widths n [] row wide = All-cons (λ r. length r ≡ n) row [] wide (All-nil (λ r. length r ≡ n))
+rows_of_lines_widths n (line ∷ lines) row wide =
+    elim (is_edge_line line) as (λ b. All (λ r. length r ≡ n) (if b then row ∷ rows_of_lines row lines else rows_of_lines (row_after row line) lines)) [
+      | true ↦ All-cons (λ r. length r ≡ n) row (rows_of_lines row lines) wide (rows_of_lines_widths n lines row wide)
+      | false ↦ rows_of_lines_widths n lines (row_after row line) (row_after-length row line ∙ wide)
+    ]
 
 pub rows_of_lines_some : (lines : List (List ℕ)) (row : List Bool) → 0 < length (rows_of_lines row lines)
 rows_of_lines_some [] row = omega arith

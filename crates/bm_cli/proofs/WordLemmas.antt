@@ -12,13 +12,13 @@ eleven _ b c d e f g h i j k n p1 p2 p3 p4 p5 p6 p7 p8 p9 p10 = absurd (omega ar
 
 pub one_request : (words : List (List ℕ)) (r s : Request) → HasForm words r → HasForm words s → r ≡ s
 one_request words r s p q =
-    let same : p.0 ∷ codes "minimise" ∷ r.netlist ∷ r.stimulus ∷ r.out ∷ codes "--top" ∷ r.top ∷ codes "--clock" ∷ r.clock ∷ codes "--check" ∷ r.check ∷ []
-    ≡ q.0 ∷ codes "minimise" ∷ s.netlist ∷ s.stimulus ∷ s.out ∷ codes "--top" ∷ s.top ∷ codes "--clock" ∷ s.clock ∷ codes "--check" ∷ s.check ∷ []
+    let same : p.0 ∷ codes "minimise" ∷ r.netlist ∷ r.stimulus ∷ r.out ∷ codes "--top" ∷ r.names.top ∷ codes "--clock" ∷ r.names.clock ∷ codes "--check" ∷ r.names.check ∷ []
+    ≡ q.0 ∷ codes "minimise" ∷ s.netlist ∷ s.stimulus ∷ s.out ∷ codes "--top" ∷ s.names.top ∷ codes "--clock" ∷ s.names.clock ∷ codes "--check" ∷ s.names.check ∷ []
     = sym p.1 ∙ q.1 in
     let netlist : r.netlist ≡ s.netlist = cc in
     let stimulus : r.stimulus ≡ s.stimulus = cc in
     let out : r.out ≡ s.out = cc in
-    let top : r.top ≡ s.top = cc in
-    let clock : r.clock ≡ s.clock = cc in
-    let check : r.check ≡ s.check = cc in
-    λ i. record { netlist = netlist i; stimulus = stimulus i; out = out i; top = top i; clock = clock i; check = check i }
+    let top : r.names.top ≡ s.names.top = cc in
+    let clock : r.names.clock ≡ s.names.clock = cc in
+    let check : r.names.check ≡ s.names.check = cc in
+    λ i. record { netlist = netlist i; stimulus = stimulus i; out = out i; names = record { top = top i; clock = clock i; check = check i } }

@@ -1,20 +1,28 @@
 -- What a command does to a shelf, by what its words ask for.
-use Rattle.std.specs.Prelude.{◌≡◌, ◌⊎◌, ℕ, List, Option}
+use Rattle.std.specs.Prelude.{◌≡◌, ◌⊎◌, ℕ, List, Option, Result, Err}
 use Rattle.bm_base.specs.Counts.{FaultCounts, count_of, Rose}
 use Rattle.bm_base.specs.Held.{Held}
 use Rattle.bm_base.specs.declared.status.Status.{Status}
 use Rattle.bm_base.specs.declared.status.Status.TheVariants.{Done, No, Words, Netlist, Waveform, ReadFault, WriteFault, Limit, Memory, Certificate}
-use Rattle.bm_cli.specs.Words.{Request, Asks}
+use Rattle.bm_cli.specs.declared.answer.Refusal.TheVariants.{Words as Nothing}
+use Rattle.bm_cli.specs.declared.answer.Stop.{Stop}
+use Rattle.bm_cli.specs.declared.answer.Stop.TheVariants.{Refused}
+use Rattle.bm_cli.specs.declared.answer.Summary.{Summary}
+use Rattle.bm_cli.specs.Reason.{CallCounts, Reason}
+use Rattle.bm_cli.specs.Words.{AskNothing, Request, Asks}
 use Rattle.bm_cli.specs.Minimise.{HoldsOut, HoldsPart}
 
 -- The words ask for something of which this holds.
 abbrev pub AskFor : List (List ℕ) → (Request → Type 0) → Type 0
 AskFor words P = (request : Request) × Asks words request × P request
 
--- The read count of a file that the command reads has risen.
+-- The read count of NETLIST or of STIM has risen.
+abbrev pub FailsReadingOf : Request → FaultCounts → FaultCounts → Type 0
+FailsReadingOf request old new = Rose (count_of old request.netlist) (count_of new request.netlist) ⊎ Rose (count_of old request.stimulus) (count_of new request.stimulus)
+
+-- The same of the files that the words ask for.
 abbrev pub FailsReading : List (List ℕ) → FaultCounts → FaultCounts → Type 0
-FailsReading words old new = AskFor words (λ request.
-    (Rose (count_of old request.netlist) (count_of new request.netlist)) ⊎ (Rose (count_of old request.stimulus) (count_of new request.stimulus)))
+FailsReading words old new = AskFor words (λ request. FailsReadingOf request old new)
 
 -- The write count of the file that the command writes has risen.
 abbrev pub FailsWriting : List (List ℕ) → FaultCounts → FaultCounts → Type 0
@@ -44,3 +52,7 @@ LeavesShelf words Waveform old new = new ≡ old
 LeavesShelf words ReadFault old new = new ≡ old
 LeavesShelf words Limit old new = new ≡ old
 LeavesShelf words Certificate old new = new ≡ old
+
+-- Why the command came to this: the words ask for nothing, or for something for which it is the reason.
+abbrev pub CommandReason : List (List ℕ) → Option Held → CallCounts → Result Summary Stop → Type 0
+CommandReason words held counts outcome = ((outcome ≡ Err (Refused Nothing)) × AskNothing words) ⊎ AskFor words (λ request. Reason request held counts outcome)

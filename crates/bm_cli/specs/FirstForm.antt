@@ -19,7 +19,7 @@ use Rattle.vlog_tree.specs.declared.expr.Expr.{Expr}
 use Rattle.vlog_tree.specs.declared.expr.Expr.TheVariants as expr
 use Rattle.vlog_tree.specs.declared.stmt.Stmt.{Stmt}
 use Rattle.vlog_tree.specs.declared.stmt.Stmt.TheVariants.{Set}
-use Rattle.bm_cli.specs.declared.words.Names.{Names}
+use Rattle.bm_cli.specs.TopNames.{TopNames}
 
 abbrev pub Text : Type 0
 Text = List ℕ
@@ -218,13 +218,13 @@ abbrev pub are_taken : Text → List Item → Bool
 are_taken clock items = are_among (taken items) (declared items) && are_other clock (taken items) && are_all clock (edges items)
 
 -- The conditions on the one module's items.
-pub record AreFirstForm (names : Names) (items : List Item) : Type 0 where
+pub record AreFirstForm (names : TopNames) (items : List Item) : Type 0 where
   pub plain : IsTrue (list_all is_plain_item items)
-  pub declared : IsTrue (are_declared names.clock.now names.check.now items)
+  pub declared : IsTrue (are_declared names.clock names.check items)
   pub driven : IsTrue (are_driven items)
   pub written : IsTrue (are_written items)
-  pub reads : IsTrue (are_reads_known (sources names.clock.now items) items)
-  pub taken : IsTrue (are_taken names.clock.now items)
+  pub reads : IsTrue (are_reads_known (sources names.clock items) items)
+  pub taken : IsTrue (are_taken names.clock items)
 
 -- The name is the top's, and is not reserved.
 pub record IsTop (name top : Text) : Type 0 where
@@ -232,8 +232,8 @@ pub record IsTop (name top : Text) : Type 0 where
   pub free : is_reserved_text name ≡ false
 
 -- There is one module, of the top's name, and its items meet the conditions.
-pub record IsFirstForm (names : Names) (design : Design) : Type 0 where
+pub record IsFirstForm (names : TopNames) (design : Design) : Type 0 where
   pub top : Module
   pub only : design.modules ≡ top ∷ []
-  pub name : IsTop top.name names.top.now
+  pub name : IsTop top.name names.top
   pub items : AreFirstForm names top.items

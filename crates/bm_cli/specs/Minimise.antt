@@ -1,16 +1,21 @@
 -- What `minimise` does to a shelf.
-use Rattle.std.specs.Prelude.{◌≡◌, ◌≢◌, ◌⊎◌, ℕ, List, Bool, Option, Some, take}
+use Rattle.std.specs.Prelude.{◌≡◌, ◌⊎◌, ℕ, IfSome, List, Bool, Option, Some, take}
 use Rattle.std.specs.Option.{option_map}
 use Rattle.bm_base.specs.Counts.{FaultCounts, count_of, Rose, RisesOnlyAt, SameCounts}
-use Rattle.bm_base.specs.Held.{Held, holding}
+use Rattle.bm_base.specs.Held.{Held, bytes_under, holding}
 use Rattle.trace_rows.specs.declared.labels.Labels.{Labels}
 use Rattle.vcd_writer.specs.Waveform.{vcd}
+use Rattle.vlog_tree.specs.declared.design.Design.{Design}
 use Rattle.bm_cli.specs.declared.answer.Refusal.{Refusal}
-use Rattle.bm_cli.specs.declared.answer.Refusal.TheVariants.{ReadFault, Words}
+use Rattle.bm_cli.specs.declared.answer.Refusal.TheVariants.{ReadFault}
 use Rattle.bm_cli.specs.declared.answer.Stop.{Stop}
 use Rattle.bm_cli.specs.declared.answer.Stop.TheVariants.{Refused, WriteFault, Memory}
 use Rattle.bm_cli.specs.declared.form.FormFault.{FormFault}
 use Rattle.bm_cli.specs.declared.form.FormFault.TheVariants.{Form, Memory as NoRoom}
+use Rattle.bm_cli.specs.Input.{IsNetlist, design_labels}
+use Rattle.bm_cli.specs.Named.{AreNamed}
+use Rattle.bm_cli.specs.TopNames.{TopNames}
+use Rattle.bm_cli.specs.Waveform.{AreWords}
 use Rattle.bm_cli.specs.Words.{Request}
 
 -- No byte is changed, and of the counts only the read count of this name may rise.
@@ -19,11 +24,20 @@ pub record ReadsOnly (name : List ℕ) (held held_now : Option Held) (reads read
   pub reads_rise : RisesOnlyAt name reads reads_now
   pub writes_stay : SameCounts writes writes_now
 
--- A step that reads stops with a read fault only where the count rose, and with no other fault but want of memory.
-pub record StopsReading (name : List ℕ) (reads reads_now : FaultCounts) (stop : Stop) : Type 0 where
-  pub read_fault : stop ≡ Refused ReadFault → Rose (count_of reads name) (count_of reads_now name)
-  pub no_write_fault : stop ≢ WriteFault
-  pub no_words : stop ≢ Refused Words
+-- The bytes of a file do not come only for a fault whose count has risen, and for want of memory.
+abbrev pub StopsFilling : List ℕ → FaultCounts → FaultCounts → Stop → Type 0
+StopsFilling name reads reads_now stop = ((stop ≡ Refused ReadFault) × Rose (count_of reads name) (count_of reads_now name)) ⊎ (stop ≡ Memory)
+
+-- A step that reads a file stops for the file's form, for a fault whose count has risen, or for want of memory.
+abbrev pub StopsReading : Refusal → List ℕ → FaultCounts → FaultCounts → Stop → Type 0
+StopsReading form name reads reads_now stop = (stop ≡ Refused form) ⊎ StopsFilling name reads reads_now stop
+
+-- NETLIST was read: the labels are those of its design, and where the shelf tells it, the design is of the file's bytes.
+pub record ReadsNetlist (names : TopNames) (held : Option Held) (name : List ℕ) (labels : Labels) : Type 0 where
+  pub design : Design
+  pub labelled : labels ≡ design_labels names design
+  pub words : AreWords labels
+  pub told : IfSome held (λ held. IsNetlist names (bytes_under held name) design)
 
 -- how the command stops where a file is not of its form
 abbrev pub stop_of : FormFault → Refusal → Stop
@@ -33,7 +47,7 @@ stop_of NoRoom refusal = Memory
 -- The text is a waveform of some rows and checker bits, under labels of these names.
 abbrev pub IsOutText : Request → List ℕ → Type 0
 IsOutText request text = (rows : List (List Bool)) × (labels : Labels) × (checks : List Bool)
-    × (labels.top ≡ request.top) × (labels.clock ≡ request.clock) × (labels.check ≡ request.check) × (text ≡ vcd rows labels (Some checks))
+    × AreNamed request.names labels × (text ≡ vcd rows labels (Some checks))
 
 -- The output holds its text, and nothing else has changed.
 abbrev pub HoldsOut : Request → Option Held → Option Held → Type 0

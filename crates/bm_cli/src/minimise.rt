@@ -1,12 +1,15 @@
 //! The work of `minimise`.
-ghost use Rattle.std.specs.Prelude.{◌≡◌, ◌≢◌, ◌⊎◌, ◌<◌, ◌≤◌, List, Bool, IfErr, IfOk, OnErr, OnOk, Some, length};
-ghost use Rattle.bm_base.specs.Counts.{count_of, Rose};
-ghost use Rattle.bm_cli.specs.Asked.{request_of};
+ghost use Rattle.std.specs.Prelude.{◌≡◌, ◌⊎◌, ◌<◌, ◌≤◌, List, Bool, IfErr, IfOk, IfSome, OnErr, OnOk, Some, length};
+ghost use Rattle.bm_base.specs.Held.{bytes_under};
+ghost use Rattle.bm_cli.specs.Asked.{names_of, request_of};
 ghost use Rattle.bm_cli.specs.Circuit.{IsInOrder};
 ghost use Rattle.vcd_writer.specs.Waveform.{vcd};
-ghost use Rattle.bm_cli.specs.Minimise.{ReadsOnly, StopsReading, HoldsPart, HoldsOut, stop_of};
+ghost use Rattle.bm_cli.specs.Files.{IsWithin};
+ghost use Rattle.bm_cli.specs.Input.{IsNoNetlist, IsNoWaveform, IsWaveform};
+ghost use Rattle.bm_cli.specs.Minimise.{HoldsOut, HoldsPart, ReadsNetlist, ReadsOnly, StopsFilling, StopsReading, stop_of};
 ghost use Rattle.bm_cli.specs.Named.{AreNamed};
-ghost use Rattle.bm_cli.specs.Waveform.{AreScalars};
+ghost use Rattle.bm_cli.specs.Reason.{Reason};
+ghost use Rattle.bm_cli.specs.Waveform.{AreScalars, AreWords};
 
 use crate::answer::{Refusal, Stop, Summary};
 use crate::files::{read_file, write_file};
@@ -32,11 +35,7 @@ pub fn minimise<F: Shelf>(alloc: Global, asked: &Minimise, shelf: &mut F) -> Res
     ensures written { OnOk result (HoldsOut (request_of asked.now) (F.held shelf.old) (F.held shelf.new)) }
     ensures part { OnErr result (HoldsPart (request_of asked.now) (F.held shelf.old) (F.held shelf.new)) }
     ensures refused { (refusal : Refusal) → result ≡ Err (Stop.Refused refusal) → F.held shelf.new ≡ F.held shelf.old }
-    ensures read_fault { result ≡ Err (Stop.Refused Refusal.ReadFault) →
-        Rose (count_of (F.reads shelf.old) asked.now.netlist.now) (count_of (F.reads shelf.new) asked.now.netlist.now)
-        ⊎ Rose (count_of (F.reads shelf.old) asked.now.stimulus.now) (count_of (F.reads shelf.new) asked.now.stimulus.now) }
-    ensures write_fault { result ≡ Err Stop.WriteFault → Rose (count_of (F.writes shelf.old) asked.now.out.now) (count_of (F.writes shelf.new) asked.now.out.now) }
-    ensures words { result ≢ Err (Stop.Refused Refusal.Words) }
+    ensures reason { Reason (request_of asked.now) (F.held shelf.old) (record { reads = F.reads shelf.old; reads_now = F.reads shelf.new; writes = F.writes shelf.old; writes_now = F.writes shelf.new }) result }
 {
     let (circuit, labels) = read_netlist(alloc, shelf, asked.netlist, &asked.names)?;
     let trace = read_stimulus(alloc, shelf, asked.stimulus, &labels)?;
@@ -55,10 +54,12 @@ fn read_netlist<F: Shelf>(
     names: &Names,
 ) -> Result<(Circuit, Labels), Stop>
     ensures only_reads { ReadsOnly name.now (F.held shelf.old) (F.held shelf.new) (F.reads shelf.old) (F.reads shelf.new) (F.writes shelf.old) (F.writes shelf.new) }
-    ensures stops { IfErr result (StopsReading name.now (F.reads shelf.old) (F.reads shelf.new)) }
+    ensures stops { IfErr result (StopsReading Refusal.NetlistForm name.now (F.reads shelf.old) (F.reads shelf.new)) }
+    ensures read { IfOk result (λ read. ReadsNetlist (names_of names.now) (F.held shelf.old) name.now read.1) }
+    ensures refused { result ≡ Err (Stop.Refused Refusal.NetlistForm) → IfSome (F.held shelf.old) (λ held. IsNoNetlist (names_of names.now) (bytes_under held name.now)) }
     ensures circuit { IfOk result (λ read. IsInOrder read.0) }
     ensures ports { IfOk result (λ read. AreScalars read.1.ports × (length read.1.ports ≡ read.0.inputs)) }
-    ensures labels { IfOk result (λ read. AreNamed names.now read.1) }
+    ensures labels { IfOk result (λ read. AreNamed (names_of names.now) read.1) }
 {
     let Some(bytes) = read_input(alloc, shelf, name, NETLIST_LIMIT)? else {
         return Err(Stop::Refused(Refusal::NetlistForm));
@@ -77,7 +78,9 @@ fn read_stimulus<F: Shelf>(
 ) -> Result<Trace, Stop>
     requires { AreScalars labels.now.ports }
     ensures only_reads { ReadsOnly name.now (F.held shelf.old) (F.held shelf.new) (F.reads shelf.old) (F.reads shelf.new) (F.writes shelf.old) (F.writes shelf.new) }
-    ensures stops { IfErr result (StopsReading name.now (F.reads shelf.old) (F.reads shelf.new)) }
+    ensures stops { IfErr result (StopsReading Refusal.WaveformForm name.now (F.reads shelf.old) (F.reads shelf.new)) }
+    ensures read { IfOk result (λ trace. IfSome (F.held shelf.old) (λ held. IsWaveform labels.now (bytes_under held name.now) trace.rows)) }
+    ensures refused { result ≡ Err (Stop.Refused Refusal.WaveformForm) → AreWords labels.now → IfSome (F.held shelf.old) (λ held. IsNoWaveform labels.now (bytes_under held name.now)) }
     ensures width { IfOk result (λ trace. trace.width ≡ length labels.now.ports) }
 {
     let Some(bytes) = read_input(alloc, shelf, name, WAVEFORM_LIMIT)? else {
@@ -97,7 +100,8 @@ fn read_input<F: Shelf>(
     limit: u64,
 ) -> Result<Option<Vec<u8>>, Stop>
     ensures only_reads { ReadsOnly name.now (F.held shelf.old) (F.held shelf.new) (F.reads shelf.old) (F.reads shelf.new) (F.writes shelf.old) (F.writes shelf.new) }
-    ensures stops { IfErr result (StopsReading name.now (F.reads shelf.old) (F.reads shelf.new)) }
+    ensures stops { IfErr result (StopsFilling name.now (F.reads shelf.old) (F.reads shelf.new)) }
+    ensures bytes { IfOk result (λ found. IfSome (F.held shelf.old) (λ held. IsWithin limit (bytes_under held name.now) found)) }
 {
     match read_file(alloc, shelf, name, limit) {
         Ok(found) => Ok(found),

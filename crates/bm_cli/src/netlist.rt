@@ -1,6 +1,9 @@
 //! The first form of a netlist: one flat module of `and`, `not` and plain registers.
-ghost use Rattle.std.specs.Prelude.{◌≡◌, length, IfOk};
+ghost use Rattle.std.specs.Prelude.{◌≡◌, length, IfOk, IsErrOf};
+ghost use Rattle.vlog_tree.specs.declared.design.Design.{Design as Tree};
+ghost use Rattle.bm_cli.specs.Asked.{names_of};
 ghost use Rattle.bm_cli.specs.Circuit.{IsInOrder};
+ghost use Rattle.bm_cli.specs.Input.{IsRead, SpellsNetlist};
 ghost use Rattle.bm_cli.specs.Named.{AreNamed};
 ghost use Rattle.bm_cli.specs.Waveform.{AreScalars};
 
@@ -21,7 +24,9 @@ use trace_rows::Labels;
 pub fn read(alloc: Global, bytes: &[u8], names: &Names) -> Result<(Circuit, Labels), FormFault>
     ensures circuit { IfOk result (λ read. IsInOrder read.0) }
     ensures ports { IfOk result (λ read. AreScalars read.1.ports × (length read.1.ports ≡ read.0.inputs)) }
-    ensures labels { IfOk result (λ read. AreNamed names.now read.1) }
+    ensures labels { IfOk result (λ read. AreNamed (names_of names.now) read.1) }
+    ensures read { IfOk result (λ read. IsRead (names_of names.now) bytes.now read.1) }
+    ensures refused { IsErrOf result FormFault.Form → (design : Tree) → SpellsNetlist (names_of names.now) bytes.now design → ⊥ }
 {
     let Some(tokens) = token::tokens(alloc, bytes)? else {
         return Err(FormFault::Form);

@@ -1,10 +1,13 @@
 //! The top call.
-ghost use Rattle.std.specs.Prelude.{◌≡◌, ◌⊎◌, OnErr, OnOk};
-ghost use Rattle.bm_base.specs.Counts.{Rose};
+ghost use Rattle.std.specs.Prelude.{◌≡◌, ◌⊎◌, IfSome, OnErr, OnOk, Some};
+ghost use Rattle.bm_base.specs.Counts.{Rose, count_of};
+ghost use Rattle.bm_base.specs.Held.{Held};
 ghost use Rattle.bm_cli.specs.Answer.{status_of};
-ghost use Rattle.bm_cli.specs.Command.{FailsPrinting, FailsReading, FailsWriting, HoldsAsked, LeavesShelf, MayHoldPart};
+ghost use Rattle.bm_cli.specs.Command.{AskFor, CommandReason, FailsPrinting, FailsReading, FailsReadingOf, FailsWriting, HoldsAsked, LeavesShelf, MayHoldPart};
 ghost use Rattle.bm_cli.specs.Printed.{Prints, PrintsForStatus};
-ghost use Rattle.bm_cli.specs.Words.{AskNothing, texts};
+ghost use Rattle.bm_cli.specs.Verdict.{HasNoNetlist, HasNoWaveform};
+ghost use Rattle.bm_cli.specs.Words.{AskNothing, Asks, Request, texts};
+ghost use Rattle.bm_cli.specs.Yields.{Ends, Printed, Yields};
 
 use crate::answer::{Answer, Refusal, Stop, Summary};
 use crate::minimise::minimise;
@@ -16,8 +19,17 @@ use std::alloc::Global;
 pub fn run<F: Shelf, S: Sink>(alloc: Global, words: &[String], shelf: &mut F, out: &mut S) -> Status
     // Status 2 comes exactly where the words ask for nothing, but for want of memory and a fault of printing.
     ensures words { result ≡ Status.Words → AskNothing (texts words.now) }
-    ensures words_refused { AskNothing (texts words.now) →
-        (result ≡ Status.Words) ⊎ (result ≡ Status.WriteFault) ⊎ (result ≡ Status.Memory) }
+    ensures words_refused { AskNothing (texts words.now) → Printed Status.Words result (Rose (S.faults out.old) (S.faults out.new)) }
+
+    // Status 3 comes exactly where NETLIST is not of the first form, but for a fault of reading it.
+    ensures netlist { result ≡ Status.Netlist → AskFor (texts words.now) (λ request. IfSome (F.held shelf.old) (HasNoNetlist request)) }
+    ensures netlist_refused { (request : Request) (held : Held) → Asks (texts words.now) request → F.held shelf.old ≡ Some held → HasNoNetlist request held →
+        Yields Status.Netlist result (Rose (count_of (F.reads shelf.old) request.netlist) (count_of (F.reads shelf.new) request.netlist)) (Rose (S.faults out.old) (S.faults out.new)) }
+
+    // Status 4 comes exactly where NETLIST is of the first form and STIM is not, but for a fault of reading them.
+    ensures waveform { result ≡ Status.Waveform → AskFor (texts words.now) (λ request. IfSome (F.held shelf.old) (HasNoWaveform request)) }
+    ensures waveform_refused { (request : Request) (held : Held) → Asks (texts words.now) request → F.held shelf.old ≡ Some held → HasNoWaveform request held →
+        Yields Status.Waveform result (FailsReadingOf request (F.reads shelf.old) (F.reads shelf.new)) (Rose (S.faults out.old) (S.faults out.new)) }
 
     // Faults have their causes.
     ensures read_fault { result ≡ Status.ReadFault →
@@ -30,22 +42,12 @@ pub fn run<F: Shelf, S: Sink>(alloc: Global, words: &[String], shelf: &mut F, ou
     ensures shelf { LeavesShelf (texts words.now) result (F.held shelf.old) (F.held shelf.new) }
     ensures printed { PrintsForStatus result (S.taken out.old) (S.taken out.new) }
 {
-    let answer = match command(alloc, words, shelf) {
-        Ok(summary) => Answer::Minimised(summary),
-        Err(Stop::Refused(refusal)) => Answer::Refused(refusal),
-        Err(Stop::WriteFault) => return Status::WriteFault,
-        Err(Stop::Memory) => return Status::Memory,
-    };
-    print(alloc, &answer, out)
+    let outcome = command(alloc, words, shelf);
+    finish(alloc, outcome, out)
 }
 
 fn command<F: Shelf>(alloc: Global, words: &[String], shelf: &mut F) -> Result<Summary, Stop>
-    ensures words { result ≡ Err (Stop.Refused Refusal.Words) → AskNothing (texts words.now) }
-    ensures words_refused { AskNothing (texts words.now) → result ≡ Err (Stop.Refused Refusal.Words) }
-    ensures read_fault { result ≡ Err (Stop.Refused Refusal.ReadFault) →
-        FailsReading (texts words.now) (F.reads shelf.old) (F.reads shelf.new) }
-    ensures write_fault { result ≡ Err Stop.WriteFault →
-        FailsWriting (texts words.now) (F.writes shelf.old) (F.writes shelf.new) }
+    ensures reason { CommandReason (texts words.now) (F.held shelf.old) (record { reads = F.reads shelf.old; reads_now = F.reads shelf.new; writes = F.writes shelf.old; writes_now = F.writes shelf.new }) result }
     ensures written { OnOk result (HoldsAsked (texts words.now) (F.held shelf.old) (F.held shelf.new)) }
     ensures part { OnErr result (MayHoldPart (texts words.now) (F.held shelf.old) (F.held shelf.new)) }
     ensures refused { (refusal : Refusal) → result ≡ Err (Stop.Refused refusal) → F.held shelf.new ≡ F.held shelf.old }
@@ -56,11 +58,23 @@ fn command<F: Shelf>(alloc: Global, words: &[String], shelf: &mut F) -> Result<S
     }
 }
 
+// Prints the line of what the command came to, if it has one, and gives its status.
+fn finish<S: Sink>(alloc: Global, outcome: Result<Summary, Stop>, out: &mut S) -> Status
+    ensures ends { Ends outcome result (Rose (S.faults out.old) (S.faults out.new)) }
+    ensures printed { PrintsForStatus result (S.taken out.old) (S.taken out.new) }
+{
+    match outcome {
+        Ok(summary) => print(alloc, &Answer::Minimised(summary), out),
+        Err(Stop::Refused(refusal)) => print(alloc, &Answer::Refused(refusal), out),
+        Err(Stop::WriteFault) => Status::WriteFault,
+        Err(Stop::Memory) => Status::Memory,
+    }
+}
+
 // Prints the answer's line in one piece.
 fn print<S: Sink>(alloc: Global, answer: &Answer, out: &mut S) -> Status
-    ensures status { (result ≡ status_of answer.now) ⊎ (result ≡ Status.WriteFault) ⊎ (result ≡ Status.Memory) }
+    ensures status { Printed (status_of answer.now) result (Rose (S.faults out.old) (S.faults out.new)) }
     ensures printed { Prints answer.now result (S.taken out.old) (S.taken out.new) }
-    ensures cause { result ≡ Status.WriteFault → Rose (S.faults out.old) (S.faults out.new) }
 {
     let line = match answer.line(alloc) {
         Ok(line) => line,

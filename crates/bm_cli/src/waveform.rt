@@ -1,9 +1,9 @@
 //! The first form of a waveform: the text that the writer makes of some rows, without checker bits.
-ghost use Rattle.std.specs.Prelude.{◌≡◌, ◌<◌, All, Bool, false, IfOk, IsErrOf, List, None, length, map, replicate};
+ghost use Rattle.std.specs.Prelude.{◌≡◌, Bool, false, IfOk, IsErrOf, List, length, map, replicate};
 ghost use Rattle.bm_cli.specs.declared.form.FormFault;
+ghost use Rattle.bm_cli.specs.Input.{SpellsRows};
 ghost use Rattle.bm_cli.specs.Waveform.{AreScalars, AreWords};
 ghost use Rattle.bm_cli.specs.WaveformLines.{is_bit_digit, is_edge_line, lines_of, number_of, row_after, rows_of_lines};
-ghost use Rattle.vcd_writer.specs.Waveform.{vcd};
 
 use crate::form::FormFault;
 use bm_base::{Bits, NoMemory};
@@ -26,10 +26,9 @@ const FIRST_PORT: usize = 2;
 pub fn read_waveform(alloc: Global, labels: &Labels, bytes: &[u8]) -> Result<Trace, FormFault>
     requires { AreScalars labels.now.ports }
     ensures width { IfOk result (λ trace. trace.width ≡ length labels.now.ports) }
-    ensures rows { IfOk result (λ trace. 0 < length trace.rows) }
-    ensures text { IfOk result (λ trace. bytes.now ≡ vcd trace.rows labels.now None) }
-    ensures only { IfOk result (λ trace. AreWords labels.now → (rows : List (List Bool)) → 0 < length rows → All (λ row. length row ≡ length labels.now.ports) rows → bytes.now ≡ vcd rows labels.now None → trace.rows ≡ rows) }
-    ensures refused { IsErrOf result FormFault.Form → AreWords labels.now → (rows : List (List Bool)) → 0 < length rows → All (λ row. length row ≡ length labels.now.ports) rows → bytes.now ≡ vcd rows labels.now None → ⊥ }
+    ensures text { IfOk result (λ trace. SpellsRows labels.now bytes.now trace.rows) }
+    ensures only { IfOk result (λ trace. AreWords labels.now → (rows : List (List Bool)) → SpellsRows labels.now bytes.now rows → trace.rows ≡ rows) }
+    ensures refused { IsErrOf result FormFault.Form → AreWords labels.now → (rows : List (List Bool)) → SpellsRows labels.now bytes.now rows → ⊥ }
 {
     let trace = rows(alloc, labels.ports.len(), bytes)?;
     let text = vcd_text(alloc, &trace, labels, None)?;
@@ -44,9 +43,7 @@ pub fn read_waveform(alloc: Global, labels: &Labels, bytes: &[u8]) -> Result<Tra
 pub(crate) fn a_text_has_one_trace(labels: &Labels, bytes: &[u8])
     requires scalars { AreScalars labels.now.ports }
     requires words { AreWords labels.now }
-    ensures { (rows others : List (List Bool)) → 0 < length rows → 0 < length others
-        → All (λ row. length row ≡ length labels.now.ports) rows → All (λ row. length row ≡ length labels.now.ports) others
-        → bytes.now ≡ vcd rows labels.now None → bytes.now ≡ vcd others labels.now None → rows ≡ others }
+    ensures { (rows others : List (List Bool)) → SpellsRows labels.now bytes.now rows → SpellsRows labels.now bytes.now others → rows ≡ others }
 {}
 
 // The rows that the lines of a written waveform give: a row stands before each edge, and one at the end.

@@ -3,6 +3,7 @@ ghost use Rattle.std.specs.Prelude.{◌≡◌, ◌↔◌, ◌∷◌, IsTrue, IsE
 ghost use Rattle.std.specs.List.{list_all, cons_option};
 ghost use Rattle.std.specs.Str.{bytes_eq};
 ghost use Rattle.std.specs.Option.{option_copied};
+ghost use Rattle.bm_cli.specs.Asked.{names_of};
 ghost use Rattle.bm_cli.specs.Roles.{name_in, shown};
 ghost use Rattle.bm_cli.specs.FirstForm.{is_plain_item, is_plain_kind, are_gate_outs, are_gate_ins, is_whole_left, is_whole, is_move, declared_name, input_name, output_name, net_name, register_name, driven_name, written_name, taken_name, edge_name, first_left, left_name, whole_name, is_among, are_among, are_distinct, are_other, are_all, is_not_reserved, without, is_known, reads_only, are_reads_known, are_same, are_declared, are_driven, are_written, are_taken, sources, are_free, IsTop, AreFirstForm, IsFirstForm};
 ghost use Rattle.bm_cli.specs.Circuit.{AreInOrder, IsInOrder, ReadsBelow};
@@ -139,7 +140,7 @@ pub fn gather<'d>(alloc: Global, items: &'d [Item], role: Role) -> Result<Vec<&'
     Ok(found)
 }
 
-fn push_some<'d>(names: &mut Vec<&'d [u8]>, name: Option<&'d [u8]>) -> Result<(), AllocError>
+pub fn push_some<'d>(names: &mut Vec<&'d [u8]>, name: Option<&'d [u8]>) -> Result<(), AllocError>
     ensures { IfOk result (λ _. map (λ text. text.now) names.new.items ≡ map (λ text. text.now) names.old.items ++ cons_option (shown name.entry) []) }
 {
     if let Some(name) = name {
@@ -230,7 +231,7 @@ fn register(item: &Item) -> Option<&[u8]>
     }
 }
 
-fn gate_output(item: &Item) -> Option<&[u8]>
+pub fn gate_output(item: &Item) -> Option<&[u8]>
     ensures { option_copied result ≡ driven_name item.now }
 {
     match item {
@@ -417,7 +418,7 @@ fn all_plain(items: &[Item]) -> bool
 
 // Whether the items meet the conditions.
 fn meets(alloc: Global, items: &[Item], names: &Names) -> Result<bool, AllocError>
-    ensures { IfOk result (λ holds. IsTrue holds ↔ AreFirstForm names.now items.now) }
+    ensures { IfOk result (λ holds. IsTrue holds ↔ AreFirstForm (names_of names.now) items.now) }
 {
     let clock = names.clock.as_bytes();
     let declared = declares_well(alloc, items, clock, names.check.as_bytes())?;
@@ -448,8 +449,9 @@ pub fn form_module<'d>(
     design: &'d Design,
     names: &Names,
 ) -> Result<&'d Module, FormFault>
-    ensures form { IfOk result (λ _. IsFirstForm names.now design.now) }
-    ensures refused { IsErrOf result Form → IsFirstForm names.now design.now → ⊥ }
+    ensures form { IfOk result (λ _. IsFirstForm (names_of names.now) design.now) }
+    ensures only { IfOk result (λ top. design.now.modules ≡ top.now ∷ []) }
+    ensures refused { IsErrOf result Form → IsFirstForm (names_of names.now) design.now → ⊥ }
 {
     let module = only_module(design)?;
     let named = is_top(module.name.bytes(), names.top.as_bytes());
@@ -534,7 +536,7 @@ fn are_moves(taken: &[&[u8]], declared: &[&[u8]], edges: &[&[u8]], clock: &[u8])
     has_all(taken, declared) && lacks(taken, clock) && are_equal(edges, clock)
 }
 
-fn joined<'d>(
+pub fn joined<'d>(
     alloc: Global,
     first: &[&'d [u8]],
     second: &[&'d [u8]],

@@ -5,6 +5,7 @@ ghost use Rattle.vlog_tree.specs.declared.design.Design.{Design as Tree};
 ghost use Rattle.bm_cli.specs.Grammar.{SpellsDesign};
 ghost use Rattle.bm_cli.specs.GrammarReads as spec;
 ghost use Rattle.bm_cli.specs.GrammarReads.{Reads, ReadsAll, ReadsInto, ReadsToken};
+ghost use Rattle.bm_cli.specs.Spelling.{IsOneDesign};
 ghost use Rattle.bm_cli.specs.Tokens.{Tok, tok_of, toks};
 
 use super::token::{Token, TokenKind};
@@ -87,6 +88,7 @@ fn is_text(found: &[u8], text: &str) -> bool
 /// `design = "module" name "(" port ("," port)* ")" ";" item* "endmodule"`, and then nothing.
 pub fn design(alloc: Global, tokens: &[Token]) -> Result<Design, FormFault>
     ensures reads { ReadsAll (spec.read_design (toks tokens.now)) result }
+    ensures spelled { IfOk result (λ found. SpellsDesign (toks tokens.now) found) }
     ensures only { IfOk result (λ found. (design : Tree) → SpellsDesign (toks tokens.now) design → design ≡ found) }
     ensures refused { IsErrOf result FormFault.Form → (design : Tree) → SpellsDesign (toks tokens.now) design → ⊥ }
 {
@@ -355,3 +357,8 @@ fn whole(alloc: Global, cursor: &mut Cursor) -> Result<Expr, FormFault>
         name: Name::new(alloc, word.text)?,
     })
 }
+
+/// Bytes spell one design at most.
+pub(crate) fn one_design()
+    ensures { IsOneDesign }
+{}

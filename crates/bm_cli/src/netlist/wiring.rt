@@ -1,174 +1,174 @@
 //! The circuit of a tree that meets the conditions of the first form.
-ghost use Rattle.std.specs.Prelude.{◌≡◌, ◌+◌, ◌<◌, All, IfOk, Some, length, map};
-ghost use Rattle.bm_cli.specs.FirstForm.{IsFirstForm};
-ghost use Rattle.bm_cli.specs.Circuit.{AreInOrder, IsInOrder, ReadsBelow};
-ghost use Rattle.bm_cli.specs.Named.{AreNamed};
+ghost use Rattle.std.specs.Prelude.{◌≡◌, ◌+◌, ◌<◌, ◌++◌, [], ◌∷◌, All, IfOk, IsErrOf, IsTrue, Some, filter, length, map, slice_get};
+ghost use Rattle.std.specs.List.{cons_option, list_all};
+ghost use Rattle.bm_cli.specs.Asked.{names_of};
+ghost use Rattle.bm_cli.specs.FirstForm.{AreFirstForm, IsFirstForm, are_among, are_gate_ins, are_reads_known, driven, is_among, is_known, is_plain_item, inputs, reads_only, taken, whole_name, without, written};
+ghost use Rattle.bm_cli.specs.Circuit.{AreInOrder, IsInOrder};
+ghost use Rattle.bm_cli.specs.Labels.{labels_of, labels_with};
+ghost use Rattle.bm_cli.specs.Roles.{texts};
 ghost use Rattle.bm_cli.specs.Waveform.{AreScalars};
+ghost use Rattle.bm_cli.specs.Wired.{AreGatesOf, AreTaken, IsGateWith, IsSignal, IsWired, is_gate, items_of};
+ghost use Rattle.bm_cli.specs.declared.form.FormFault.TheVariants.{Form};
 
 use super::circuit::{Circuit, Gate};
-use super::conditions::{Role, form_module, gather, others};
+use super::conditions::{Role, form_module, gate_output, gather, joined, others, push_some};
 use crate::form::FormFault;
 use crate::words::Names;
-use bm_base::Name;
+use bm_base::{Name, NoMemory};
 use sqlite_items::Items;
-use std::alloc::Global;
+use std::alloc::{AllocError, Global};
 use trace_rows::{Labels, PortLabel};
-use vlog_tree::{Design, Expr, GateKind, Item, Left, Module, Stmt};
+use vlog_tree::{Design, Expr, GateKind, Item};
 
-/// The circuit of a design that meets the conditions.
+/// The circuit of a design that meets the conditions, and the labels of its traces.
 pub fn circuit(
     alloc: Global,
     design: &Design,
     names: &Names,
 ) -> Result<(Circuit, Labels), FormFault>
-    ensures form { IfOk result (λ _. IsFirstForm names.now design.now) }
+    ensures form { IfOk result (λ _. IsFirstForm (names_of names.now) design.now) }
+    ensures refused { IsErrOf result Form → IsFirstForm (names_of names.now) design.now → ⊥ }
     ensures circuit { IfOk result (λ read. IsInOrder read.0) }
+    ensures wired { IfOk result (λ read. IsWired (names_of names.now) (items_of design.now.modules) read.0) }
+    ensures labels { IfOk result (λ read. read.1 ≡ labels_of (names_of names.now) (items_of design.now.modules)) }
     ensures ports { IfOk result (λ read. AreScalars read.1.ports × (length read.1.ports ≡ read.0.inputs)) }
-    ensures labels { IfOk result (λ read. AreNamed names.now read.1) }
 {
     let module = form_module(alloc, design, names)?;
-    let inputs = gather(alloc, module.items.as_slice(), Role::Input)?;
+    let items = module.items.as_slice();
+    let inputs = gather(alloc, items, Role::Input)?;
     let inputs = others(alloc, &inputs, names.clock.as_bytes())?;
-    let registers = gather(alloc, module.items.as_slice(), Role::Register)?;
-    let mut signals = Vec::from_slice(alloc, &inputs)?;
-    signals.extend_from_slice(&registers)?;
-    let gates = gates(alloc, module, &mut signals)?;
-    let next = next(alloc, module, &registers, &signals)?;
-    let check = signal(&signals, names.check.as_bytes())?;
+    let circuit = wire(alloc, items, names, &inputs)?;
     let labels = labels(alloc, names, &inputs)?;
-    let inputs = inputs.len();
-    Ok((
-        Circuit {
-            inputs,
-            next,
-            gates,
-            check,
-        },
-        labels,
-    ))
+    Ok((circuit, labels))
 }
 
-// The gates in source order. Each reads signals that stand before it.
+// The circuit of items that meet the conditions. Its inputs are those of the items but the clock.
+fn wire<'d>(
+    alloc: Global,
+    items: &'d [Item],
+    names: &Names,
+    ports: &[&'d [u8]],
+) -> Result<Circuit, AllocError>
+    requires form { AreFirstForm (names_of names.now) items.now }
+    requires ports { texts ports.now ≡ without names.now.clock.now (inputs items.now) }
+    ensures circuit { IfOk result (λ circuit. IsInOrder circuit) }
+    ensures wired { IfOk result (λ circuit. IsWired (names_of names.now) items.now circuit) }
+{
+    let registers = gather(alloc, items, Role::Register)?;
+    let mut signals = joined(alloc, ports, &registers)?;
+    let gates = gates(alloc, items, &mut signals)?;
+    let next = next(alloc, items, &registers, &signals)?;
+    let check = signal(names.check.as_bytes(), &signals);
+    Ok(Circuit {
+        inputs: ports.len(),
+        next,
+        gates,
+        check,
+    })
+}
+
+// The gates in source order. Each reads signals that stand before it, and adds the one that it drives.
 fn gates<'d>(
     alloc: Global,
-    module: &'d Module,
+    items: &'d [Item],
     signals: &mut Vec<&'d [u8]>,
-) -> Result<Vec<Gate>, FormFault>
+) -> Result<Vec<Gate>, AllocError>
+    requires plain { IsTrue (list_all is_plain_item items.now) }
+    requires known { IsTrue (are_reads_known (texts signals.old.items) items.now) }
+    ensures signals { IfOk result (λ _. texts signals.new.items ≡ texts signals.old.items ++ driven items.now) }
+    ensures wired { IfOk result (λ gates. AreGatesOf (texts signals.new.items) (filter is_gate items.now) gates.items) }
     ensures in_order { IfOk result (λ gates. AreInOrder (length signals.old.items) gates.items) }
     ensures len { IfOk result (λ gates. length signals.new.items ≡ length signals.old.items + length gates.items) }
 {
     let mut gates = Vec::new(alloc);
-    for item in module.items.as_slice() {
-        if let Item::Gate {
-            kind,
-            outs,
-            ins,
-            ..
-        } = item
-        {
-            let gate = gate(*kind, ins.as_slice(), signals)?;
-            let out = driven(outs.as_slice())?;
-            gates.push(gate)?;
-            signals.push(out)?;
-        }
+    for item in items {
+        push_gate(&mut gates, gate(item, signals))?;
+        push_some(signals, gate_output(item))?;
     }
     Ok(gates)
 }
 
-fn gate(kind: GateKind, ins: &[Expr], signals: &[&[u8]]) -> Result<Gate, FormFault>
-    ensures { IfOk result (ReadsBelow (length signals.now)) }
+fn push_gate(gates: &mut Vec<Gate>, gate: Option<Gate>) -> Result<(), AllocError>
+    ensures { IfOk result (λ _. gates.new.items ≡ gates.old.items ++ cons_option gate []) }
+{
+    if let Some(gate) = gate {
+        gates.push(gate)?;
+    }
+    Ok(())
+}
+
+// The gate that an item is, if it is one.
+fn gate(item: &Item, signals: &[&[u8]]) -> Option<Gate>
+    requires plain { IsTrue (is_plain_item item.now) }
+    requires known { IsTrue (reads_only (texts signals.now) item.now) }
+    ensures { AreGatesOf (texts signals.now) (filter is_gate (item.now ∷ [])) (cons_option result []) }
+{
+    match item {
+        Item::Gate { kind, ins, .. } => Some(gate_of(*kind, ins.as_slice(), signals)),
+        _ => None,
+    }
+}
+
+fn gate_of(kind: GateKind, ins: &[Expr], signals: &[&[u8]]) -> Gate
+    requires plain { IsTrue (are_gate_ins kind ins.now) }
+    requires known { IsTrue (list_all (is_known (texts signals.now)) ins.now) }
+    ensures { IsGateWith (texts signals.now) kind ins.now result }
 {
     match (kind, ins) {
-        (GateKind::And, [left, right]) => {
-            let left = signal(signals, read(left)?)?;
-            let right = signal(signals, read(right)?)?;
-            Ok(Gate::And(left, right))
-        }
-        (GateKind::Not, [only]) => Ok(Gate::Not(signal(signals, read(only)?)?)),
-        _ => Err(FormFault::Form),
+        (GateKind::And, [left, right]) => Gate::And(read(left, signals), read(right, signals)),
+        (GateKind::Not, [only]) => Gate::Not(read(only, signals)),
+        _ => unreachable!(),
     }
 }
 
-// The name that a gate's output is.
-fn driven<'d>(outs: &'d [Left]) -> Result<&'d [u8], FormFault> {
-    match outs {
-        [Left::Whole { name, .. }] => Ok(name.bytes()),
-        _ => Err(FormFault::Form),
-    }
-}
-
-// The name that an expression is.
-fn read(expr: &Expr) -> Result<&[u8], FormFault> {
+// The number of the signal that an expression is.
+fn read(expr: &Expr, signals: &[&[u8]]) -> usize
+    requires { IsTrue (is_known (texts signals.now) expr.now) }
+    ensures { slice_get (texts signals.now) result ≡ whole_name expr.now }
+{
     match expr {
-        Expr::Whole { name, .. } => Ok(name.bytes()),
-        _ => Err(FormFault::Form),
+        Expr::Whole { name, .. } => signal(name.bytes(), signals),
+        _ => unreachable!(),
     }
 }
 
 // The number of the signal with this name.
-fn signal(signals: &[&[u8]], name: &[u8]) -> Result<usize, FormFault>
-    ensures { IfOk result (λ number. number < length signals.now) }
+fn signal(name: &[u8], signals: &[&[u8]]) -> usize
+    requires { IsTrue (is_among (texts signals.now) name.now) }
+    ensures { IsSignal (texts signals.now) result name.now }
 {
-    signals
-        .iter()
-        .position(|other| *other == name)
-        .ok_or(FormFault::Form)
+    signals.iter().position(|other| *other == name).unwrap()
 }
 
 // For each register the signal that its one `always` gives it.
 fn next(
     alloc: Global,
-    module: &Module,
+    items: &[Item],
     registers: &[&[u8]],
     signals: &[&[u8]],
-) -> Result<Vec<usize>, FormFault>
-    ensures len { IfOk result (λ next. length next.items ≡ length registers.now) }
-    ensures within { IfOk result (λ next. All (λ signal. signal < length signals.now) next.items) }
+) -> Result<Vec<usize>, AllocError>
+    requires plain { IsTrue (list_all is_plain_item items.now) }
+    requires written { IsTrue (are_among (texts registers.now) (written items.now)) }
+    requires taken { IsTrue (are_among (taken items.now) (texts signals.now)) }
+    ensures { IfOk result (λ next. AreTaken (texts signals.now) items.now (texts registers.now) next.items) }
 {
-    let mut sources = vec![in alloc; None; registers.len()]?;
-    for item in module.items.as_slice() {
-        if let Item::Always { body, .. } = item {
-            let (register, source) = moved(body)?;
-            let register = signal(registers, register)?;
-            sources[register] = Some(signal(signals, source)?);
-        }
+    let written = gather(alloc, items, Role::Written)?;
+    let taken = gather(alloc, items, Role::Taken)?;
+    let mut next = Vec::new(alloc);
+    for register in registers {
+        let source = taken[signal(register, &written)];
+        next.push(signal(source, signals))?;
     }
-    all_given(alloc, &sources)
+    Ok(next)
 }
 
-// The names of the register that a statement writes and of what it takes over.
-fn moved(body: &Stmt) -> Result<(&[u8], &[u8]), FormFault> {
-    match body {
-        Stmt::Set {
-            left: Left::Whole { name, .. },
-            right: Expr::Whole { name: source, .. },
-            ..
-        } => Ok((name.bytes(), source.bytes())),
-        _ => Err(FormFault::Form),
-    }
-}
-
-fn all_given(alloc: Global, sources: &[Option<usize>]) -> Result<Vec<usize>, FormFault>
-    ensures { IfOk result (λ given. sources.now ≡ map Some given.items) }
+// The labels of traces whose ports have these names.
+fn labels(alloc: Global, names: &Names, ports: &[&[u8]]) -> Result<Labels, NoMemory>
+    ensures { IfOk result (λ labels. labels ≡ labels_with (names_of names.now) (texts ports.now)) }
 {
-    let mut given = Vec::new(alloc);
-    for source in sources {
-        match source {
-            Some(signal) => given.push(*signal)?,
-            None => return Err(FormFault::Form),
-        }
-    }
-    Ok(given)
-}
-
-fn labels(alloc: Global, names: &Names, inputs: &[&[u8]]) -> Result<Labels, FormFault>
-    ensures scalars { IfOk result (λ labels. AreScalars labels.ports) }
-    ensures len { IfOk result (λ labels. length labels.ports ≡ length inputs.now) }
-    ensures names { IfOk result (AreNamed names.now) }
-{
-    let mut ports = Items::new(alloc);
-    for name in inputs {
-        ports.push(PortLabel {
+    let mut labels = Items::new(alloc);
+    for name in ports {
+        labels.push(PortLabel {
             name: Name::new(alloc, name)?,
             width: 1,
             range: None,
@@ -178,6 +178,6 @@ fn labels(alloc: Global, names: &Names, inputs: &[&[u8]]) -> Result<Labels, Form
         top: Name::new(alloc, names.top.as_bytes())?,
         clock: Name::new(alloc, names.clock.as_bytes())?,
         check: Name::new(alloc, names.check.as_bytes())?,
-        ports,
+        ports: labels,
     })
 }

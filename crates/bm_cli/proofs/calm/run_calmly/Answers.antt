@@ -10,4 +10,4 @@ returns-clause-no_write_fault c = λ is. ⊎_elim (λ printing. no_fault_at_0 pr
 
 pub returns-clause-words_refused : goal.returns-clause-words_refused
 returns-clause-words_refused c = λ nothing.
-    ⊎_elim inl (⊎_elim (λ is. absurd (returns-clause-no_write_fault c is)) inr) (c.run.ensures.words_refused nothing)
+    ⊎_elim inl (⊎_elim (λ failed. absurd (no_fault_at_0 failed.1)) inr) (c.run.ensures.words_refused nothing)

@@ -1,34 +1,21 @@
-use Rattle.std.proofs.Common.{ap, inl, inr, subst, Err}
-use Rattle.bm_cli.specs.declared.answer.Answer.{Answer}
-use Rattle.bm_cli.specs.declared.answer.Answer.TheVariants.{Refused}
-use Rattle.bm_cli.specs.declared.answer.Refusal.TheVariants.{Words}
-use Rattle.bm_cli.specs.Answer.{line_of}
+use Rattle.bm_base.specs.Counts.{Rose}
+use Rattle.bm_cli.specs.Reason.{CallCounts}
 use Rattle.bm_cli.specs.Words.{texts}
-use Rattle.bm_cli.proofs.TopLemmas.{IsPrinted, done_leaves, refusal_leaves, nothing_printed}
+use Rattle.bm_cli.proofs.VerdictLemmas.{netlist_yields, reason_for, shelf_left, waveform_yields}
 use Rattle.bm_cli.proofs.top.run.Goals as goal
-use Rattle.bm_cli.proofs.top.run.Goals.{in-Ok, in-Err-Refused}
+
+pub returns-clause-netlist_refused : goal.returns-clause-netlist_refused
+returns-clause-netlist_refused g c = λ request held asks told none.
+    let counts : CallCounts = record { reads = g.F.Shelf.reads c.args.shelf.now; reads_now = g.F.Shelf.reads c.command-outcome.new.shelf; writes = g.F.Shelf.writes c.args.shelf.now; writes_now = g.F.Shelf.writes c.command-outcome.new.shelf } in
+    netlist_yields request held counts c.command-outcome.result c.finish.result (Rose (g.S.Sink.faults c.args.out.now) (g.S.Sink.faults c.finish.new.out))
+    (reason_for (texts c.args.words.now) request (g.F.Shelf.held c.args.shelf.now) held counts c.command-outcome.result asks told c.command-outcome.ensures.reason) c.finish.ensures.ends none
+
+pub returns-clause-waveform_refused : goal.returns-clause-waveform_refused
+returns-clause-waveform_refused g c = λ request held asks told none.
+    let counts : CallCounts = record { reads = g.F.Shelf.reads c.args.shelf.now; reads_now = g.F.Shelf.reads c.command-outcome.new.shelf; writes = g.F.Shelf.writes c.args.shelf.now; writes_now = g.F.Shelf.writes c.command-outcome.new.shelf } in
+    waveform_yields request held counts c.command-outcome.result c.finish.result (Rose (g.S.Sink.faults c.args.out.now) (g.S.Sink.faults c.finish.new.out))
+    (reason_for (texts c.args.words.now) request (g.F.Shelf.held c.args.shelf.now) held counts c.command-outcome.result asks told c.command-outcome.ensures.reason) c.finish.ensures.ends none
 
 pub returns-clause-shelf : goal.returns-clause-shelf
-returns-clause-shelf g c =
-    let P : Answer → Type 0 = λ answer. IsPrinted answer c.print.result in
-    elim c.match-command.branch [
-      | in-Ok w ↦ done_leaves (texts c.args.words.now) w.in-Ok.summary c.print.result (g.F.Shelf.held c.args.shelf.now) (g.F.Shelf.held c.command.new.shelf)
-          (subst P w.answer-is c.print.ensures.status) w.in-Ok.ensures.written
-      | in-Err-Refused w ↦ refusal_leaves (texts c.args.words.now) w.in-Err-Refused.refusal c.print.result (g.F.Shelf.held c.args.shelf.now) (g.F.Shelf.held c.command.new.shelf)
-          (subst P w.answer-is c.print.ensures.status) (w.in-Err-Refused.ensures.refused w.in-Err-Refused.refusal (ap Err w.in-Err-Refused.field-0-is))
-    ]
-
-pub returns-in-Err-WriteFault-clause-printed : goal.returns-in-Err-WriteFault-clause-printed
-returns-in-Err-WriteFault-clause-printed g c = (Refused Words, (0, nothing_printed (g.S.Sink.taken c.args.out.now) (line_of (Refused Words))))
-
-pub returns-in-Err-Memory-clause-printed : goal.returns-in-Err-Memory-clause-printed
-returns-in-Err-Memory-clause-printed g c = (Refused Words, (0, nothing_printed (g.S.Sink.taken c.args.out.now) (line_of (Refused Words))))
-
-pub returns-clause-write_fault : goal.returns-clause-write_fault
-returns-clause-write_fault g c = λ is. inl (
-  c.print.ensures.cause is,
-  elim c.match-command.branch [
-    | in-Ok w ↦ inr w.in-Ok.ensures.written
-    | in-Err-Refused w ↦ inl (w.in-Err-Refused.ensures.refused w.in-Err-Refused.refusal (ap Err w.in-Err-Refused.field-0-is))
-  ],
-)
+returns-clause-shelf g c = shelf_left (texts c.args.words.now) (g.F.Shelf.held c.args.shelf.now) (g.F.Shelf.held c.command-outcome.new.shelf) c.command-outcome.result c.finish.result
+    (Rose (g.S.Sink.faults c.args.out.now) (g.S.Sink.faults c.finish.new.out)) c.finish.ensures.ends c.command-outcome.ensures.written c.command-outcome.ensures.part c.command-outcome.ensures.refused

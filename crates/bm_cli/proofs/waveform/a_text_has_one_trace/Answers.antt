@@ -3,5 +3,5 @@ use Rattle.bm_cli.proofs.WaveformLemmas.{one_trace}
 use Rattle.bm_cli.proofs.waveform.a_text_has_one_trace.Goals as goal
 
 pub returns : goal.returns
-returns c = λ rows others some some_others width width_others is is_others.
-    one_trace c.args.labels.now c.requires.scalars c.requires.words c.args.bytes.now (omega arith) rows others some some_others width width_others is is_others
+returns c = λ rows others is is_others.
+    one_trace c.args.labels.now c.requires.scalars c.requires.words c.args.bytes.now (omega arith) rows others is.some is_others.some is.widths is_others.widths is.text is_others.text

@@ -1,9 +1,7 @@
-use Rattle.std.proofs.Common.{◌≡◌, ◌+◌, length}
-use Rattle.bm_cli.specs.Circuit.{AreInOrder}
+use Rattle.std.proofs.Common.{drop, take}
+use Rattle.bm_cli.specs.Roles.{texts}
+use Rattle.bm_cli.proofs.GateLemmas.{AreWiredSoFar}
 use Rattle.bm_cli.proofs.netlist.wiring.gates.Given as goal
 
 abbrev pub invariant-loop-item : goal.invariant-loop-item
-invariant-loop-item l = record {
-  in_order : AreInOrder (length l.initial.signals.items) l.gates.items;
-  len : length l.signals.items ≡ length l.initial.signals.items + length l.gates.items;
-}
+invariant-loop-item l = AreWiredSoFar (texts l.initial.signals.items) (take l.item-index l.items) (drop l.item-index l.items) (texts l.signals.items) l.gates.items

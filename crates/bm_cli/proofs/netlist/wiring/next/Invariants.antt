@@ -1,9 +1,7 @@
-use Rattle.std.proofs.Common.{◌≡◌, ◌<◌, All, length}
-use Rattle.std.specs.Option.{IfSome}
+use Rattle.std.proofs.Common.{take}
+use Rattle.bm_cli.specs.Roles.{texts}
+use Rattle.bm_cli.specs.Wired.{AreTaken}
 use Rattle.bm_cli.proofs.netlist.wiring.next.Given as goal
 
-abbrev pub invariant-loop-item : goal.invariant-loop-item
-invariant-loop-item l = record {
-  len : length l.sources.items ≡ length l.registers;
-  within : All (λ source. IfSome source (λ signal. signal < length l.signals)) l.sources.items;
-}
+abbrev pub invariant-loop-register : goal.invariant-loop-register
+invariant-loop-register l = AreTaken (texts l.signals) l.items (texts (take l.register-index l.registers)) l.next.items

@@ -1,0 +1,25 @@
+-- What NETLIST and STIM are, by the bytes that a shelf holds under their names.
+use Rattle.std.specs.Prelude.{List, Bool}
+use Rattle.bm_base.specs.Held.{Held, bytes_under}
+use Rattle.vlog_tree.specs.declared.design.Design.{Design}
+use Rattle.bm_cli.specs.Input.{IsNetlist, IsNoNetlist, IsNoWaveform, IsWaveform, design_labels}
+use Rattle.bm_cli.specs.Words.{Request}
+
+abbrev pub HasNetlist : Request → Held → Design → Type 0
+HasNetlist request held design = IsNetlist request.names (bytes_under held request.netlist) design
+
+abbrev pub HasWaveform : Request → Held → Design → List (List Bool) → Type 0
+HasWaveform request held design rows = IsWaveform (design_labels request.names design) (bytes_under held request.stimulus) rows
+
+-- NETLIST is not of the first form.
+abbrev pub HasNoNetlist : Request → Held → Type 0
+HasNoNetlist request held = IsNoNetlist request.names (bytes_under held request.netlist)
+
+-- NETLIST is of the first form, and STIM is not.
+abbrev pub HasNoWaveform : Request → Held → Type 0
+HasNoWaveform request held = (design : Design) × HasNetlist request held design
+    × IsNoWaveform (design_labels request.names design) (bytes_under held request.stimulus)
+
+-- Both are of the first form, and this holds of the design and the rows.
+abbrev pub HasInput : Request → Held → (Design → List (List Bool) → Type 0) → Type 0
+HasInput request held P = (design : Design) × (rows : List (List Bool)) × HasNetlist request held design × HasWaveform request held design rows × P design rows
