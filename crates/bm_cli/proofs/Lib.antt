@@ -2,6 +2,7 @@ pub mod AmongLemmas
 pub mod CalmLemmas
 pub mod CircuitLemmas
 pub mod ConditionLemmas
+pub mod CutLemmas
 pub mod DesignLaws
 pub mod DesignSound
 pub mod FileLemmas
@@ -12,6 +13,17 @@ pub mod GrammarLemmas
 pub mod GrammarSound
 pub mod LabelLemmas
 pub mod LineLemmas
+pub mod Meaning
+pub mod MeaningEntries
+pub mod MeaningGates
+pub mod MeaningItems
+pub mod MeaningKeys
+pub mod MeaningNames
+pub mod MeaningParts
+pub mod MeaningRuns
+pub mod MeaningSignals
+pub mod MeaningSteps
+pub mod MeaningValues
 pub mod MoveLemmas
 pub mod NameLemmas
 pub mod NetlistLemmas
@@ -22,6 +34,7 @@ pub mod Scalars
 pub mod SignalLemmas
 pub mod SimulationLemmas
 pub mod TokenLemmas
+pub mod ToldLemmas
 pub mod TopLemmas
 pub mod VerdictLemmas
 pub mod WaveformLemmas

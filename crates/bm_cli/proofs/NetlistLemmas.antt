@@ -3,15 +3,18 @@ use Rattle.std.proofs.Common.{◌≡◌, ℕ, List, Result, Ok, Err, refl, sym, 
 use Rattle.std.specs.Result.{IfOk, IsErrAnd, IsErrOf}
 use Rattle.trace_rows.specs.declared.labels.Labels.{Labels}
 use Rattle.vlog_tree.specs.declared.design.Design.{Design}
+use Rattle.bm_cli.specs.Circuit.{IsInOrder}
 use Rattle.bm_cli.specs.FirstForm.{IsFirstForm}
 use Rattle.bm_cli.specs.Grammar.{SpellsDesign}
 use Rattle.bm_cli.specs.Input.{IsRead, SpellsNetlist, design_labels}
 use Rattle.bm_cli.specs.TopNames.{TopNames}
 use Rattle.bm_cli.specs.Tokens.{AreTokens, Tok}
 use Rattle.bm_cli.specs.Waveform.{AreWords}
+use Rattle.bm_cli.specs.Wired.{IsWired, items_of}
 use Rattle.bm_cli.specs.declared.form.FormFault.{FormFault}
 use Rattle.bm_cli.specs.declared.form.FormFault.TheVariants.{Form}
 use Rattle.bm_cli.specs.declared.netlist.circuit.Circuit.{Circuit}
+use Rattle.bm_cli.proofs.Meaning.{circuit_is_machine}
 use Rattle.bm_cli.proofs.NameLemmas.{labels_are_words}
 use Rattle.bm_cli.proofs.TokenLemmas.{one_list}
 
@@ -29,21 +32,21 @@ pub form_of_found : (names : TopNames) (bytes : List ℕ) (ts : List Tok) (found
     → ((design : Design) → SpellsDesign ts design → design ≡ found) → (design : Design) → SpellsNetlist names bytes design → IsFirstForm names found
 form_of_found names bytes ts found are only design text = subst (IsFirstForm names) (only design (spelled_by names bytes ts design are text)) text.form
 
-read_of : (names : TopNames) (bytes : List ℕ) (design : Design) (labels : Labels) → SpellsNetlist names bytes design → labels ≡ design_labels names design → IsRead names bytes labels
-read_of names bytes design labels text is = record {
-  design = design;
-  text = text;
-  labelled = is;
-  words = subst AreWords (sym is) (labels_are_words names bytes design text);
-}
-
 pub circuit_read : (names : TopNames) (bytes : List ℕ) (ts : List Tok) (design : Design) (result : Result (Circuit × Labels) FormFault)
     → AreTokens 0 bytes ts → SpellsDesign ts design
-    → IfOk result (λ read. IsFirstForm names design) → IfOk result (λ read. read.1 ≡ design_labels names design)
-    → IfOk result (λ read. IsRead names bytes read.1)
-circuit_read names bytes ts design (Err fault) are spelled form labelled = tt
-circuit_read names bytes ts design (Ok read) are spelled form labelled =
-    read_of names bytes design read.1 (record { spelled = (ts, are, spelled); form = form }) labelled
+    → IfOk result (λ read. IsFirstForm names design) → IfOk result (λ read. IsInOrder read.0) → IfOk result (λ read. IsWired names (items_of design.modules) read.0)
+    → IfOk result (λ read. read.1 ≡ design_labels names design)
+    → IfOk result (λ read. IsRead names bytes read.0 read.1)
+circuit_read names bytes ts design (Err fault) are spelled form in_order wired labelled = tt
+circuit_read names bytes ts design (Ok read) are spelled form in_order wired labelled =
+    let text : SpellsNetlist names bytes design = record { spelled = (ts, are, spelled); form = form } in
+    record {
+      design = design;
+      text = text;
+      machine = circuit_is_machine names design ts read.0 spelled form wired in_order;
+      labelled = labelled;
+      words = subst AreWords (sym labelled) (labels_are_words names bytes design text);
+    }
 
 -- The fault that a step gave is passed on.
 pub fault_of : {X : Type 0} (result : Result X FormFault) (fault : FormFault) → IsErrAnd result (λ e. e ≡ fault) → IsErrOf result Form → fault ≡ Form

@@ -10,6 +10,7 @@ use Rattle.bm_cli.specs.Files.{IsWithin}
 use Rattle.bm_cli.specs.Input.{IsNetlist, IsNoNetlist, IsRead, SpellsNetlist}
 use Rattle.bm_cli.specs.Minimise.{ReadsNetlist}
 use Rattle.bm_cli.specs.TopNames.{TopNames}
+use Rattle.bm_cli.specs.declared.netlist.circuit.Circuit.{Circuit}
 use Rattle.bm_cli.specs.declared.answer.Refusal.TheVariants.{NetlistForm}
 use Rattle.bm_cli.specs.declared.answer.Stop.{Stop}
 use Rattle.bm_cli.specs.declared.answer.Stop.TheVariants.{Refused}
@@ -25,12 +26,12 @@ found_within limit file found bytes is within = subst (IsWithin limit file) is w
 netlist_of : (names : TopNames) (file bytes : List ℕ) (design : Design) → bytes ≡ file → length file ≤ 65536 → SpellsNetlist names bytes design → IsNetlist names file design
 netlist_of names file bytes design same short text = record { short = short; text = subst (λ b. SpellsNetlist names b design) same text }
 
-pub netlist_told : (names : TopNames) (held : Option Held) (name : List ℕ) (labels : Labels) (found : Option (Vec ℕ Global)) (bytes : Vec ℕ Global)
-    → found ≡ Some bytes → IfSome held (λ held. IsWithin 65536 (bytes_under held name) found) → IsRead names bytes.items labels → ReadsNetlist names held name labels
-netlist_told names None name labels found bytes is told read = record { design = read.design; labelled = read.labelled; words = read.words; told = tt }
-netlist_told names (Some held) name labels found bytes is told read =
+pub netlist_told : (names : TopNames) (held : Option Held) (name : List ℕ) (circuit : Circuit) (labels : Labels) (found : Option (Vec ℕ Global)) (bytes : Vec ℕ Global)
+    → found ≡ Some bytes → IfSome held (λ held. IsWithin 65536 (bytes_under held name) found) → IsRead names bytes.items circuit labels → ReadsNetlist names held name circuit labels
+netlist_told names None name circuit labels found bytes is told read = record { design = read.design; machine = read.machine; labelled = read.labelled; words = read.words; told = tt }
+netlist_told names (Some held) name circuit labels found bytes is told read =
     let within : (bytes.items ≡ bytes_under held name) × (length (bytes_under held name) ≤ 65536) = found_within 65536 (bytes_under held name) found bytes is told in
-    record { design = read.design; labelled = read.labelled; words = read.words; told = netlist_of names (bytes_under held name) bytes.items read.design within.0 within.1 read.text }
+    record { design = read.design; machine = read.machine; labelled = read.labelled; words = read.words; told = netlist_of names (bytes_under held name) bytes.items read.design within.0 within.1 read.text }
 
 pub no_netlist_told : (names : TopNames) (held : Option Held) (name : List ℕ) (found : Option (Vec ℕ Global)) (bytes : Vec ℕ Global)
     → found ≡ Some bytes → IfSome held (λ held. IsWithin 65536 (bytes_under held name) found)

@@ -11,28 +11,22 @@ use Rattle.bm_cli.specs.declared.answer.Summary.{Summary}
 use Rattle.bm_cli.specs.declared.answer.Refusal.{Refusal}
 use Rattle.bm_cli.specs.declared.answer.Refusal.TheVariants.{NoViolation, Words, NetlistForm, WaveformForm, ReadFault}
 use Rattle.bm_cli.specs.Answer.{status_of}
-use Rattle.bm_cli.specs.Command.{HoldsAsked, MayHoldPart, LeavesShelf}
+use Rattle.bm_cli.specs.Command.{HoldsSome, MayHoldPart, LeavesShelf}
 
 -- A whole text is a prefix of itself.
-pub part_from_whole : (words : List (List ℕ)) (old new : Option Held) → HoldsAsked words old new → MayHoldPart words old new
-part_from_whole words old new whole =
-    let text : List ℕ = whole.2.0 in
+pub part_from_whole : (words : List (List ℕ)) (old new : Option Held) → HoldsSome words old new → MayHoldPart words old new
+part_from_whole words old new (summary, (request, asks, (text, is, holds))) =
     inr (
-      whole.0,
-      whole.1,
-      inr (
-        text,
-        length text,
-        whole.2.1,
-        whole.2.2 ∙ ap (λ t. option_map (holding whole.0.out t) old) (sym (take-length text)),
-      ),
+      request,
+      asks,
+      inr (text, summary, length text, is, holds ∙ ap (λ t. option_map (holding request.out t) old) (sym (take-length text))),
     )
 
 abbrev pub IsPrinted : Answer → Status → Type 0
 IsPrinted answer status = (status ≡ status_of answer) ⊎ (status ≡ WriteFault) ⊎ (status ≡ Memory)
 
 pub done_leaves : (words : List (List ℕ)) (summary : Summary) (status : Status) (old new : Option Held)
-    → IsPrinted (Minimised summary) status → HoldsAsked words old new → LeavesShelf words status old new
+    → IsPrinted (Minimised summary) status → HoldsSome words old new → LeavesShelf words status old new
 done_leaves words summary status old new (inl is) holds = subst (λ s. LeavesShelf words s old new) (sym is) holds
 done_leaves words summary status old new (inr (inl is)) holds = subst (λ s. LeavesShelf words s old new) (sym is) (part_from_whole words old new holds)
 done_leaves words summary status old new (inr (inr is)) holds = subst (λ s. LeavesShelf words s old new) (sym is) (part_from_whole words old new holds)

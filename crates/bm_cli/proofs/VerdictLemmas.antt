@@ -1,18 +1,22 @@
 -- From what a command came to, and from why, to its status.
-use Rattle.std.proofs.Common.{◌≡◌, ◌≢◌, ◌⊎◌, inl, inr, ⊎_elim, ℕ, List, Bool, true, false, Option, Some, Result, Ok, Err, refl, sym, ap, ◌∙◌, subst}
-use Rattle.std.specs.Option.{IfSome}
-use Rattle.std.specs.Result.{OnErr, OnOk}
+use Rattle.std.proofs.Common.{◌≡◌, ◌≢◌, ◌⊎◌, inl, inr, ⊎_elim, ℕ, List, ◌++◌, Bool, true, false, Option, Some, None, Result, Ok, Err, refl, sym, ap, ◌∙◌, subst, arith}
+use Rattle.std.specs.Option.{IfSome, option_map}
+use Rattle.std.specs.Result.{IfOk, OnErr}
 use Rattle.std.proofs.lemmas.Bool.{false≢true}
 use Rattle.bm_base.specs.Counts.{FaultCounts, Rose, count_of}
-use Rattle.bm_base.specs.Held.{Held, bytes_under}
+use Rattle.bm_base.specs.Held.{Held, bytes_under, holding}
 use Rattle.bm_base.specs.declared.status.Status.{Status}
 use Rattle.bm_base.specs.declared.status.Status.TheVariants as status
 use Rattle.vlog_tree.specs.declared.design.Design.{Design}
-use Rattle.bm_cli.specs.Answer.{refusal_status, status_of}
-use Rattle.bm_cli.specs.Command.{AskFor, CommandReason, FailsPrinting, FailsReading, FailsReadingOf, FailsWriting, HoldsAsked, LeavesShelf, MayHoldPart}
-use Rattle.bm_cli.specs.Input.{IsNetlist, IsNoWaveform, IsWaveform, design_labels}
-use Rattle.bm_cli.specs.Reason.{CallCounts, Reason, RefusalReason}
-use Rattle.bm_cli.specs.Verdict.{HasInput, HasNetlist, HasNoNetlist, HasNoWaveform, HasWaveform}
+use Rattle.vlog_tree.specs.Run.{Violates}
+use Rattle.bm_cli.specs.Answer.{line_of, refusal_status, status_of, summary_line}
+use Rattle.bm_cli.specs.Command.{AskFor, CommandReason, FailsPrinting, FailsReading, FailsReadingOf, FailsWriting, HoldsAsked, IsDone, LeavesShelf, MayHoldPart}
+use Rattle.bm_cli.specs.Input.{IsNetlist, IsNoWaveform, IsWaveform, SpellsRows, design_labels}
+use Rattle.bm_cli.specs.Means.{machine_of}
+use Rattle.bm_cli.specs.Minimise.{IsOutText}
+use Rattle.bm_cli.specs.Printed.{Prints, PrintsForStatus, PrintsOutcome}
+use Rattle.bm_cli.specs.Reason.{CallCounts, Reason, RefusalReason, WriteRose}
+use Rattle.bm_cli.specs.Verdict.{HasInput, HasNetlist, HasNoNetlist, HasNoViolation, HasNoWaveform, HasViolation, HasWaveform}
 use Rattle.bm_cli.specs.Words.{AskNothing, Asks, Request}
 use Rattle.bm_cli.specs.Yields.{Ends, Printed, Yields}
 use Rattle.bm_cli.specs.declared.answer.Answer.TheVariants.{Minimised, Refused as Refusing}
@@ -22,7 +26,9 @@ use Rattle.bm_cli.specs.declared.answer.Stop.{Stop}
 use Rattle.bm_cli.specs.declared.answer.Stop.TheVariants.{Refused, WriteFault, Memory}
 use Rattle.bm_cli.specs.declared.answer.Summary.{Summary}
 use Rattle.bm_cli.proofs.DesignLaws.{one_spelled}
-use Rattle.bm_cli.proofs.TopLemmas.{IsPrinted, done_leaves, refusal_leaves}
+use Rattle.bm_cli.proofs.NameLemmas.{labels_are_scalars, labels_are_words}
+use Rattle.bm_cli.proofs.TopLemmas.{IsPrinted, done_leaves, nothing_printed, refusal_leaves}
+use Rattle.bm_cli.proofs.WaveformLemmas.{one_trace}
 use Rattle.bm_cli.proofs.WordLemmas.{one_request}
 
 abbrev pub Outcome : Type 0
@@ -139,10 +145,10 @@ done_is_no_fault is = cc
 
 pub write_fault : (words : List (List ℕ)) (old new : Option Held) (counts : CallCounts) (faults faults_now : ℕ) (outcome : Outcome) (s : Status)
     → CommandReason words old counts outcome → Ends outcome s (Rose faults faults_now)
-    → OnOk outcome (HoldsAsked words old new) → ((refusal : Refusal) → outcome ≡ Err (Refused refusal) → new ≡ old)
+    → IfOk outcome (λ summary. HoldsAsked words summary old new) → ((refusal : Refusal) → outcome ≡ Err (Refused refusal) → new ≡ old)
     → s ≡ status.WriteFault → FailsPrinting words faults faults_now old new ⊎ FailsWriting words counts.writes counts.writes_now
 write_fault words old new counts faults faults_now (Ok summary) s reason ends written refused is =
-    inl (print_caused status.Done s (Rose faults faults_now) done_is_no_fault ends is, inr written)
+    inl (print_caused status.Done s (Rose faults faults_now) done_is_no_fault ends is, inr (summary, written))
 write_fault words old new counts faults faults_now (Err (Refused refusal)) s reason ends written refused is =
     inl (print_caused (refusal_status refusal) s (Rose faults faults_now) (refusal_is_no_fault refusal) ends is, inl (refused refusal refl))
 write_fault words old new counts faults faults_now (Err WriteFault) s reason ends written refused is = inr (write_caused words old counts reason)
@@ -156,9 +162,9 @@ printed expected s printing (inr (inl failed)) = inr (inl failed.0)
 printed expected s printing (inr (inr is)) = inr (inr is)
 
 pub shelf_left : (words : List (List ℕ)) (old new : Option Held) (outcome : Outcome) (s : Status) (printing : Type 0) → Ends outcome s printing
-    → OnOk outcome (HoldsAsked words old new) → OnErr outcome (MayHoldPart words old new) → ((refusal : Refusal) → outcome ≡ Err (Refused refusal) → new ≡ old)
+    → IfOk outcome (λ summary. HoldsAsked words summary old new) → OnErr outcome (MayHoldPart words old new) → ((refusal : Refusal) → outcome ≡ Err (Refused refusal) → new ≡ old)
     → LeavesShelf words s old new
-shelf_left words old new (Ok summary) s printing ends written part refused = done_leaves words summary s old new (printed status.Done s printing ends) written
+shelf_left words old new (Ok summary) s printing ends written part refused = done_leaves words summary s old new (printed status.Done s printing ends) (summary, written)
 shelf_left words old new (Err (Refused refusal)) s printing ends written part refused = refusal_leaves words refusal s old new (printed (refusal_status refusal) s printing ends) (refused refusal refl)
 shelf_left words old new (Err WriteFault) s printing ends written part refused = subst (λ t. LeavesShelf words t old new) (sym ends) part
 shelf_left words old new (Err Memory) s printing ends written part refused = subst (λ t. LeavesShelf words t old new) (sym ends) part
@@ -217,3 +223,87 @@ waveform_yields request held counts (Err (Refused ReadFault)) s printing reason 
     read_yields status.Waveform s (FailsReadingOf request counts.reads counts.reads_now) printing (read_either request counts (Some held) reason) ends
 waveform_yields request held counts (Err WriteFault) s printing reason ends none = absurd (no_rows request held none reason.1)
 waveform_yields request held counts (Err Memory) s printing reason ends none = inr (inr (inr ends))
+
+-- ---- Violations.
+
+-- A text has one list of rows under the labels of a design that it spells.
+one_rows : (request : Request) (held : Held) (design : Design) (rows others : List (List Bool)) → HasNetlist request held design
+    → HasWaveform request held design rows → HasWaveform request held design others → rows ≡ others
+one_rows request held design rows others netlist first second =
+    one_trace (design_labels request.names design) (labels_are_scalars request.names design) (labels_are_words request.names (bytes_under held request.netlist) design netlist.text)
+        (bytes_under held request.stimulus) (let short = first.short in omega arith) rows others first.text.some second.text.some first.text.widths second.text.widths first.text.text second.text.text
+
+-- Not both: some cycle violates, and none does.
+not_both : (request : Request) (held : Held) → HasViolation request held → HasNoViolation request held → ⊥
+not_both request held (design, rows, netlist, waveform, violates) (other, others, netlist', waveform', none) =
+    let same : other ≡ design = one_netlist request held other design netlist' netlist in
+    let here : HasWaveform request held design others = subst (λ d. HasWaveform request held d others) same waveform' in
+    let free : Violates (machine_of request.names design) others → ⊥ = subst (λ d. Violates (machine_of request.names d) others → ⊥) same none in
+    free (subst (Violates (machine_of request.names design)) (one_rows request held design rows others netlist waveform here) violates)
+
+pub no_violation_yields : (request : Request) (held : Held) (counts : CallCounts) (outcome : Outcome) (s : Status) (printing : Type 0)
+    → Reason request (Some held) counts outcome → Ends outcome s printing → HasNoViolation request held
+    → Yields status.No s (FailsReadingOf request counts.reads counts.reads_now) printing
+no_violation_yields request held counts (Ok summary) s printing reason ends none = absurd (not_both request held reason none)
+no_violation_yields request held counts (Err (Refused NoViolation)) s printing reason ends none = inr ends
+no_violation_yields request held counts (Err (Refused Words)) s printing reason ends none = absurd reason
+no_violation_yields request held counts (Err (Refused NetlistForm)) s printing reason ends none = absurd (reason none.0 none.2)
+no_violation_yields request held counts (Err (Refused WaveformForm)) s printing reason ends none = absurd (no_rows request held reason none)
+no_violation_yields request held counts (Err (Refused ReadFault)) s printing reason ends none =
+    read_yields status.No s (FailsReadingOf request counts.reads counts.reads_now) printing (read_either request counts (Some held) reason) ends
+no_violation_yields request held counts (Err WriteFault) s printing reason ends none = absurd (not_both request held reason.1 none)
+no_violation_yields request held counts (Err Memory) s printing reason ends none = inr (inr (inr ends))
+
+-- the cause of a write fault may be another
+caused_or : (expected s : Status) (printing writing : Type 0) → Printed expected s printing → Printed expected s (printing ⊎ writing)
+caused_or expected s printing writing (inl is) = inl is
+caused_or expected s printing writing (inr (inl failed)) = inr (inl (failed.0, inl failed.1))
+caused_or expected s printing writing (inr (inr is)) = inr (inr is)
+
+pub violation_yields : (request : Request) (held : Held) (counts : CallCounts) (outcome : Outcome) (s : Status) (printing : Type 0)
+    → Reason request (Some held) counts outcome → Ends outcome s printing → HasViolation request held
+    → Yields status.Done s (FailsReadingOf request counts.reads counts.reads_now) (printing ⊎ WriteRose counts request.out)
+violation_yields request held counts (Ok summary) s printing reason ends some = inr (caused_or status.Done s printing (WriteRose counts request.out) ends)
+violation_yields request held counts (Err (Refused NoViolation)) s printing reason ends some = absurd (not_both request held some reason)
+violation_yields request held counts (Err (Refused Words)) s printing reason ends some = absurd reason
+violation_yields request held counts (Err (Refused NetlistForm)) s printing reason ends some = absurd (reason some.0 some.2)
+violation_yields request held counts (Err (Refused WaveformForm)) s printing reason ends some = absurd (no_rows request held reason some)
+violation_yields request held counts (Err (Refused ReadFault)) s printing reason ends some =
+    read_yields status.Done s (FailsReadingOf request counts.reads counts.reads_now) (printing ⊎ WriteRose counts request.out) (read_either request counts (Some held) reason)
+        (caused_or status.ReadFault s printing (WriteRose counts request.out) ends)
+violation_yields request held counts (Err WriteFault) s printing reason ends some = inr (inr (inl (ends, inr reason.0)))
+violation_yields request held counts (Err Memory) s printing reason ends some = inr (inr (inr ends))
+
+-- ---- Status 0.
+
+is_done : (request : Request) (old new : Option Held) (text : List ℕ) (summary : Summary) (taken taken_now : Option (List ℕ))
+    → IsOutText request old text summary → new ≡ option_map (holding request.out text) old → taken_now ≡ option_map (λ bytes. bytes ++ summary_line summary) taken
+    → IfSome old (λ held. IsDone request held new taken taken_now)
+is_done request None new text summary taken taken_now is holds prints = tt
+is_done request (Some held) new text summary taken taken_now is holds prints = record { text = text; summary = summary; made = is; holds = holds; prints = prints }
+
+-- the answer's line was printed, where the status is 0
+line_printed : (summary : Summary) (s : Status) (taken taken_now : Option (List ℕ)) → s ≡ status.Done → Prints (Minimised summary) s taken taken_now
+    → taken_now ≡ option_map (λ bytes. bytes ++ summary_line summary) taken
+line_printed summary s taken taken_now is prints = (subst (λ t. Prints (Minimised summary) t taken taken_now) is prints).1
+
+pub done : (words : List (List ℕ)) (old new : Option Held) (outcome : Outcome) (s : Status) (printing : Type 0) (taken taken_now : Option (List ℕ))
+    → Ends outcome s printing → IfOk outcome (λ summary. HoldsAsked words summary old new) → PrintsOutcome outcome s taken taken_now → s ≡ status.Done
+    → AskFor words (λ request. IfSome old (λ held. IsDone request held new taken taken_now))
+done words old new (Ok summary) s printing taken taken_now ends (request, asks, (text, is, holds)) prints zero =
+    (request, asks, is_done request old new text summary taken taken_now is holds (line_printed summary s taken taken_now zero prints))
+done words old new (Err (Refused refusal)) s printing taken taken_now ends written prints zero =
+    absurd (⊎_elim (λ is. other_status status.Done refusal refl (sym zero ∙ is)) (⊎_elim (λ failed. done_is_no_fault (sym zero ∙ failed.0)) (λ is. cc)) ends)
+done words old new (Err WriteFault) s printing taken taken_now ends written prints zero = absurd (done_is_no_fault (sym zero ∙ ends))
+done words old new (Err Memory) s printing taken taken_now ends written prints zero = absurd cc
+
+-- ---- What is printed.
+
+pub status_printed : (outcome : Outcome) (s : Status) (printing : Type 0) (taken taken_now : Option (List ℕ)) → Ends outcome s printing → PrintsOutcome outcome s taken taken_now
+    → PrintsForStatus s taken taken_now
+status_printed (Ok summary) s printing taken taken_now ends prints = (Minimised summary, prints)
+status_printed (Err (Refused refusal)) s printing taken taken_now ends prints = (Refusing refusal, prints)
+status_printed (Err WriteFault) s printing taken taken_now ends same =
+    (Refusing Words, subst (λ t. Prints (Refusing Words) t taken taken_now) (sym ends) (0, same ∙ nothing_printed taken (line_of (Refusing Words))))
+status_printed (Err Memory) s printing taken taken_now ends same =
+    (Refusing Words, subst (λ t. Prints (Refusing Words) t taken taken_now) (sym ends) (0, same ∙ nothing_printed taken (line_of (Refusing Words))))

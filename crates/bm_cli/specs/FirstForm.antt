@@ -1,12 +1,12 @@
 -- The conditions of the first form of a netlist, on a tree.
-use Rattle.std.specs.Prelude.{◌≡◌, ℕ, ◌==◌, List, [], ◌∷◌, ◌++◌, Bool, true, false, not, ◌&&◌, ◌||◌, Option, Some, None, IsTrue, length, slice_get, filter, filter_map, is_none}
-use Rattle.std.specs.List.{AllPass, list_all, list_any}
+use Rattle.std.specs.Prelude.{◌≡◌, ◌==◌, List, [], ◌∷◌, ◌++◌, Bool, true, false, not, ◌&&◌, Option, Some, None, IsTrue, length, filter_map, is_none}
+use Rattle.std.specs.List.{list_all, list_any}
 use Rattle.std.specs.Str.{bytes_eq}
 use Rattle.vlog_words.specs.Words.{is_reserved_text}
 use Rattle.vlog_tree.specs.declared.design.Design.{Design}
 use Rattle.vlog_tree.specs.declared.design.Module.{Module}
 use Rattle.vlog_tree.specs.declared.item.Item.{Item}
-use Rattle.vlog_tree.specs.declared.item.Item.TheVariants.{Decl, Assign, Gate, Instance, Always, Initial}
+use Rattle.vlog_tree.specs.declared.item.Item.TheVariants.{Decl, Gate, Always}
 use Rattle.vlog_tree.specs.declared.item.Dir.{Dir}
 use Rattle.vlog_tree.specs.declared.item.Dir.TheVariants.{Input, Output}
 use Rattle.vlog_tree.specs.declared.item.NetKind.{NetKind}
@@ -19,10 +19,9 @@ use Rattle.vlog_tree.specs.declared.expr.Expr.{Expr}
 use Rattle.vlog_tree.specs.declared.expr.Expr.TheVariants as expr
 use Rattle.vlog_tree.specs.declared.stmt.Stmt.{Stmt}
 use Rattle.vlog_tree.specs.declared.stmt.Stmt.TheVariants.{Set}
+pub use Rattle.vlog_tree.specs.Keys.{without}
+pub use Rattle.vlog_tree.specs.Names.{Text, declared_name}
 use Rattle.bm_cli.specs.TopNames.{TopNames}
-
-abbrev pub Text : Type 0
-Text = List ℕ
 
 -- the name that is the whole expression
 abbrev pub whole_name : Expr → Option Text
@@ -68,10 +67,6 @@ is_plain_item (Decl at dir kind range name) = is_none range && is_plain_kind dir
 is_plain_item (Gate at kind name outs ins) = is_none name && are_gate_outs outs && are_gate_ins kind ins
 is_plain_item (Always at clock body) = is_move body
 is_plain_item other = false
-
-abbrev pub declared_name : Item → Option Text
-declared_name (Decl at dir kind range name) = Some name
-declared_name other = None
 
 abbrev pub input_name : Item → Option Text
 input_name (Decl at (Some Input) kind range name) = Some name
@@ -138,10 +133,6 @@ is_not_reserved name = not (is_reserved_text name)
 -- each name is this one
 abbrev pub are_all : Text → List Text → Bool
 are_all name names = list_all (λ other. bytes_eq other name) names
-
--- those that are other names
-abbrev pub without : Text → List Text → List Text
-without name names = filter (λ other. not (bytes_eq other name)) names
 
 -- the expression is one of these names
 abbrev pub is_known : List Text → Expr → Bool

@@ -5,10 +5,12 @@ use Rattle.vcd_writer.specs.Waveform.{vcd}
 use Rattle.vlog_tree.specs.declared.design.Design.{Design}
 use Rattle.bm_cli.specs.FirstForm.{IsFirstForm}
 use Rattle.bm_cli.specs.Labels.{labels_of}
+use Rattle.bm_cli.specs.Means.{IsMachine, machine_of}
 use Rattle.bm_cli.specs.Spelling.{Spells}
 use Rattle.bm_cli.specs.TopNames.{TopNames}
 use Rattle.bm_cli.specs.Waveform.{AreWords}
 use Rattle.bm_cli.specs.Wired.{items_of}
+use Rattle.bm_cli.specs.declared.netlist.circuit.Circuit.{Circuit}
 
 -- The bytes spell the design, and it meets the conditions.
 pub record SpellsNetlist (names : TopNames) (bytes : List ℕ) (design : Design) : Type 0 where
@@ -24,10 +26,11 @@ pub record IsNetlist (names : TopNames) (bytes : List ℕ) (design : Design) : T
 abbrev pub design_labels : TopNames → Design → Labels
 design_labels names design = labels_of names (items_of design.modules)
 
--- A netlist was read: the bytes spell a design, and the labels are its.
-pub record IsRead (names : TopNames) (bytes : List ℕ) (labels : Labels) : Type 0 where
+-- A netlist was read: the bytes spell a design, the circuit is its machine, and the labels are its.
+pub record IsRead (names : TopNames) (bytes : List ℕ) (circuit : Circuit) (labels : Labels) : Type 0 where
   pub design : Design
   pub text : SpellsNetlist names bytes design
+  pub machine : IsMachine (machine_of names design) circuit
   pub labelled : labels ≡ design_labels names design
   pub words : AreWords labels
 

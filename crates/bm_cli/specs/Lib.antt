@@ -2,12 +2,14 @@ pub mod Answer
 pub mod Asked
 pub mod Circuit
 pub mod Command
+pub mod CutOff
 pub mod Files
 pub mod FirstForm
 pub mod Grammar
 pub mod GrammarReads
 pub mod Input
 pub mod Labels
+pub mod Means
 pub mod Minimise
 pub mod Named
 pub mod Printed

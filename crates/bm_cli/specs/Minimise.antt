@@ -4,7 +4,6 @@ use Rattle.std.specs.Option.{option_map}
 use Rattle.bm_base.specs.Counts.{FaultCounts, count_of, Rose, RisesOnlyAt, SameCounts}
 use Rattle.bm_base.specs.Held.{Held, bytes_under, holding}
 use Rattle.trace_rows.specs.declared.labels.Labels.{Labels}
-use Rattle.vcd_writer.specs.Waveform.{vcd}
 use Rattle.vlog_tree.specs.declared.design.Design.{Design}
 use Rattle.bm_cli.specs.declared.answer.Refusal.{Refusal}
 use Rattle.bm_cli.specs.declared.answer.Refusal.TheVariants.{ReadFault}
@@ -13,10 +12,13 @@ use Rattle.bm_cli.specs.declared.answer.Stop.TheVariants.{Refused, WriteFault, M
 use Rattle.bm_cli.specs.declared.form.FormFault.{FormFault}
 use Rattle.bm_cli.specs.declared.form.FormFault.TheVariants.{Form, Memory as NoRoom}
 use Rattle.bm_cli.specs.Input.{IsNetlist, design_labels}
-use Rattle.bm_cli.specs.Named.{AreNamed}
+use Rattle.bm_cli.specs.Means.{IsMachine, machine_of}
 use Rattle.bm_cli.specs.TopNames.{TopNames}
 use Rattle.bm_cli.specs.Waveform.{AreWords}
+use Rattle.bm_cli.specs.Verdict.{HasMinimised}
 use Rattle.bm_cli.specs.Words.{Request}
+use Rattle.bm_cli.specs.declared.answer.Summary.{Summary}
+use Rattle.bm_cli.specs.declared.netlist.circuit.Circuit.{Circuit}
 
 -- No byte is changed, and of the counts only the read count of this name may rise.
 pub record ReadsOnly (name : List ℕ) (held held_now : Option Held) (reads reads_now writes writes_now : FaultCounts) : Type 0 where
@@ -32,9 +34,11 @@ StopsFilling name reads reads_now stop = ((stop ≡ Refused ReadFault) × Rose (
 abbrev pub StopsReading : Refusal → List ℕ → FaultCounts → FaultCounts → Stop → Type 0
 StopsReading form name reads reads_now stop = (stop ≡ Refused form) ⊎ StopsFilling name reads reads_now stop
 
--- NETLIST was read: the labels are those of its design, and where the shelf tells it, the design is of the file's bytes.
-pub record ReadsNetlist (names : TopNames) (held : Option Held) (name : List ℕ) (labels : Labels) : Type 0 where
+-- NETLIST was read: the circuit is the machine of a design, the labels are the design's, and where the shelf tells it, the
+-- design is that of the file's bytes.
+pub record ReadsNetlist (names : TopNames) (held : Option Held) (name : List ℕ) (circuit : Circuit) (labels : Labels) : Type 0 where
   pub design : Design
+  pub machine : IsMachine (machine_of names design) circuit
   pub labelled : labels ≡ design_labels names design
   pub words : AreWords labels
   pub told : IfSome held (λ held. IsNetlist names (bytes_under held name) design)
@@ -44,15 +48,14 @@ abbrev pub stop_of : FormFault → Refusal → Stop
 stop_of Form refusal = Refused refusal
 stop_of NoRoom refusal = Memory
 
--- The text is a waveform of some rows and checker bits, under labels of these names.
-abbrev pub IsOutText : Request → List ℕ → Type 0
-IsOutText request text = (rows : List (List Bool)) × (labels : Labels) × (checks : List Bool)
-    × AreNamed request.names labels × (text ≡ vcd rows labels (Some checks))
+-- Where the shelf tells its bytes, the text and the numbers are those that `minimise` makes of NETLIST and STIM.
+abbrev pub IsOutText : Request → Option Held → List ℕ → Summary → Type 0
+IsOutText request old text summary = IfSome old (λ held. HasMinimised request held text summary)
 
 -- The output holds its text, and nothing else has changed.
-abbrev pub HoldsOut : Request → Option Held → Option Held → Type 0
-HoldsOut request old new = (text : List ℕ) × IsOutText request text × (new ≡ option_map (holding request.out text) old)
+abbrev pub HoldsOut : Request → Summary → Option Held → Option Held → Type 0
+HoldsOut request summary old new = (text : List ℕ) × IsOutText request old text summary × (new ≡ option_map (holding request.out text) old)
 
 -- All is as before, or the output holds a prefix of its text and nothing else has changed.
 abbrev pub HoldsPart : Request → Option Held → Option Held → Type 0
-HoldsPart request old new = (new ≡ old) ⊎ ((text : List ℕ) × (kept : ℕ) × IsOutText request text × (new ≡ option_map (holding request.out (take kept text)) old))
+HoldsPart request old new = (new ≡ old) ⊎ ((text : List ℕ) × (summary : Summary) × (kept : ℕ) × IsOutText request old text summary × (new ≡ option_map (holding request.out (take kept text)) old))

@@ -1,5 +1,5 @@
 -- Why a command made its summary or stopped, by what NETLIST and STIM are and by the counts of faults.
-use Rattle.std.specs.Prelude.{◌⊎◌, ℕ, List, Bool, IfSome, Option, Result, Ok, Err}
+use Rattle.std.specs.Prelude.{◌⊎◌, ℕ, List, IfSome, Option, Result, Ok, Err}
 use Rattle.bm_base.specs.Counts.{FaultCounts, count_of, Rose}
 use Rattle.bm_base.specs.Held.{Held}
 use Rattle.vlog_tree.specs.declared.design.Design.{Design}
@@ -8,7 +8,7 @@ use Rattle.bm_cli.specs.declared.answer.Refusal.TheVariants.{NoViolation, Words,
 use Rattle.bm_cli.specs.declared.answer.Stop.{Stop}
 use Rattle.bm_cli.specs.declared.answer.Stop.TheVariants.{Refused, WriteFault, Memory}
 use Rattle.bm_cli.specs.declared.answer.Summary.{Summary}
-use Rattle.bm_cli.specs.Verdict.{HasInput, HasNetlist, HasNoNetlist, HasNoWaveform}
+use Rattle.bm_cli.specs.Verdict.{HasNetlist, HasNoNetlist, HasNoViolation, HasNoWaveform, HasViolation}
 use Rattle.bm_cli.specs.Words.{Request}
 
 -- the counts of the files before and after
@@ -30,12 +30,8 @@ WriteRose counts name = Rose (count_of counts.writes name) (count_of counts.writ
 abbrev pub HasSomeNetlist : Request → Held → Type 0
 HasSomeNetlist request held = (design : Design) × HasNetlist request held design
 
--- Both NETLIST and STIM are of the first form.
-abbrev pub HasSomeInput : Request → Held → Type 0
-HasSomeInput request held = HasInput request held (λ design rows. Unit {0})
-
 abbrev pub RefusalReason : Request → Option Held → CallCounts → Refusal → Type 0
-RefusalReason request held counts NoViolation = IfSome held (HasSomeInput request)
+RefusalReason request held counts NoViolation = IfSome held (HasNoViolation request)
 RefusalReason request held counts Words = ⊥
 RefusalReason request held counts NetlistForm = IfSome held (HasNoNetlist request)
 RefusalReason request held counts WaveformForm = IfSome held (HasNoWaveform request)
@@ -43,9 +39,9 @@ RefusalReason request held counts ReadFault = ReadRose counts request.netlist �
 
 abbrev pub StopReason : Request → Option Held → CallCounts → Stop → Type 0
 StopReason request held counts (Refused refusal) = RefusalReason request held counts refusal
-StopReason request held counts WriteFault = WriteRose counts request.out × IfSome held (HasSomeInput request)
+StopReason request held counts WriteFault = WriteRose counts request.out × IfSome held (HasViolation request)
 StopReason request held counts Memory = Unit {0}
 
 abbrev pub Reason : Request → Option Held → CallCounts → Result Summary Stop → Type 0
-Reason request held counts (Ok summary) = IfSome held (HasSomeInput request)
+Reason request held counts (Ok summary) = IfSome held (HasViolation request)
 Reason request held counts (Err stop) = StopReason request held counts stop

@@ -1,9 +1,10 @@
 //! The work of `minimise`.
-ghost use Rattle.std.specs.Prelude.{◌≡◌, ◌⊎◌, ◌<◌, ◌≤◌, List, Bool, IfErr, IfOk, IfSome, OnErr, OnOk, Some, length};
+ghost use Rattle.std.specs.Prelude.{◌≡◌, ◌⊎◌, ◌<◌, ◌≤◌, IfErr, IfOk, IfSome, None, OnErr, length};
 ghost use Rattle.bm_base.specs.Held.{bytes_under};
 ghost use Rattle.bm_cli.specs.Asked.{names_of, request_of};
 ghost use Rattle.bm_cli.specs.Circuit.{IsInOrder};
-ghost use Rattle.vcd_writer.specs.Waveform.{vcd};
+ghost use Rattle.bm_cli.specs.CutOff.{IsCutOff};
+ghost use Rattle.bm_cli.specs.Simulation.{first_bad, zeros};
 ghost use Rattle.bm_cli.specs.Files.{IsWithin};
 ghost use Rattle.bm_cli.specs.Input.{IsNoNetlist, IsNoWaveform, IsWaveform};
 ghost use Rattle.bm_cli.specs.Minimise.{HoldsOut, HoldsPart, ReadsNetlist, ReadsOnly, StopsFilling, StopsReading, stop_of};
@@ -32,7 +33,7 @@ const WAVEFORM_LIMIT: u64 = 1_048_576;
 
 /// Reads the netlist and the stimulus, and writes the stimulus cut off after its first violating cycle.
 pub fn minimise<F: Shelf>(alloc: Global, asked: &Minimise, shelf: &mut F) -> Result<Summary, Stop>
-    ensures written { OnOk result (HoldsOut (request_of asked.now) (F.held shelf.old) (F.held shelf.new)) }
+    ensures written { IfOk result (λ summary. HoldsOut (request_of asked.now) summary (F.held shelf.old) (F.held shelf.new)) }
     ensures part { OnErr result (HoldsPart (request_of asked.now) (F.held shelf.old) (F.held shelf.new)) }
     ensures refused { (refusal : Refusal) → result ≡ Err (Stop.Refused refusal) → F.held shelf.new ≡ F.held shelf.old }
     ensures reason { Reason (request_of asked.now) (F.held shelf.old) (record { reads = F.reads shelf.old; reads_now = F.reads shelf.new; writes = F.writes shelf.old; writes_now = F.writes shelf.new }) result }
@@ -55,7 +56,7 @@ fn read_netlist<F: Shelf>(
 ) -> Result<(Circuit, Labels), Stop>
     ensures only_reads { ReadsOnly name.now (F.held shelf.old) (F.held shelf.new) (F.reads shelf.old) (F.reads shelf.new) (F.writes shelf.old) (F.writes shelf.new) }
     ensures stops { IfErr result (StopsReading Refusal.NetlistForm name.now (F.reads shelf.old) (F.reads shelf.new)) }
-    ensures read { IfOk result (λ read. ReadsNetlist (names_of names.now) (F.held shelf.old) name.now read.1) }
+    ensures read { IfOk result (λ read. ReadsNetlist (names_of names.now) (F.held shelf.old) name.now read.0 read.1) }
     ensures refused { result ≡ Err (Stop.Refused Refusal.NetlistForm) → IfSome (F.held shelf.old) (λ held. IsNoNetlist (names_of names.now) (bytes_under held name.now)) }
     ensures circuit { IfOk result (λ read. IsInOrder read.0) }
     ensures ports { IfOk result (λ read. AreScalars read.1.ports × (length read.1.ports ≡ read.0.inputs)) }
@@ -131,7 +132,8 @@ fn cut_off(
     requires scalars { AreScalars labels.now.ports }
     requires inputs { length labels.now.ports ≡ circuit.now.inputs }
     requires width { trace.width ≡ circuit.now.inputs }
-    ensures text { IfOk result (λ made. (rows : List (List Bool)) × (checks : List Bool) × (made.0.items ≡ vcd rows labels.now (Some checks))) }
+    ensures cut { IfOk result (λ made. IsCutOff circuit.now labels.now trace.rows made.0.items made.1) }
+    ensures none { result ≡ Err (Stop.Refused Refusal.NoViolation) → first_bad circuit.now (zeros circuit.now) trace.rows ≡ None }
     ensures stops { IfErr result (λ stop. (stop ≡ Stop.Refused Refusal.NoViolation) ⊎ (stop ≡ Stop.Memory)) }
 {
     let Some(cycle) = first_violation(alloc, circuit, &trace)? else {

@@ -10,6 +10,7 @@ ghost use Rattle.bm_cli.specs.Waveform.{AreScalars};
 pub mod circuit;
 mod conditions;
 mod grammar;
+mod meaning;
 pub mod simulation;
 mod token;
 mod wiring;
@@ -25,7 +26,7 @@ pub fn read(alloc: Global, bytes: &[u8], names: &Names) -> Result<(Circuit, Labe
     ensures circuit { IfOk result (λ read. IsInOrder read.0) }
     ensures ports { IfOk result (λ read. AreScalars read.1.ports × (length read.1.ports ≡ read.0.inputs)) }
     ensures labels { IfOk result (λ read. AreNamed (names_of names.now) read.1) }
-    ensures read { IfOk result (λ read. IsRead (names_of names.now) bytes.now read.1) }
+    ensures read { IfOk result (λ read. IsRead (names_of names.now) bytes.now read.0 read.1) }
     ensures refused { IsErrOf result FormFault.Form → (design : Tree) → SpellsNetlist (names_of names.now) bytes.now design → ⊥ }
 {
     let Some(tokens) = token::tokens(alloc, bytes)? else {

@@ -1,4 +1,6 @@
 // The worked examples, over files in memory. The waveforms are written out by hand.
+mod refusals;
+
 use crate::run;
 use bm_base::{Call, MemShelf, MemSink, Status};
 use std::alloc::{AllocError, Global};

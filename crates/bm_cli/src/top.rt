@@ -1,11 +1,11 @@
 //! The top call.
-ghost use Rattle.std.specs.Prelude.{◌≡◌, ◌⊎◌, IfSome, OnErr, OnOk, Some};
+ghost use Rattle.std.specs.Prelude.{◌≡◌, ◌⊎◌, IfOk, IfSome, OnErr, Some};
 ghost use Rattle.bm_base.specs.Counts.{Rose, count_of};
 ghost use Rattle.bm_base.specs.Held.{Held};
 ghost use Rattle.bm_cli.specs.Answer.{status_of};
-ghost use Rattle.bm_cli.specs.Command.{AskFor, CommandReason, FailsPrinting, FailsReading, FailsReadingOf, FailsWriting, HoldsAsked, LeavesShelf, MayHoldPart};
-ghost use Rattle.bm_cli.specs.Printed.{Prints, PrintsForStatus};
-ghost use Rattle.bm_cli.specs.Verdict.{HasNoNetlist, HasNoWaveform};
+ghost use Rattle.bm_cli.specs.Command.{AskFor, CommandReason, FailsPrinting, FailsReading, FailsReadingOf, FailsWriting, HoldsAsked, IsDone, LeavesShelf, MayHoldPart};
+ghost use Rattle.bm_cli.specs.Printed.{Prints, PrintsForStatus, PrintsOutcome};
+ghost use Rattle.bm_cli.specs.Verdict.{HasNoNetlist, HasNoViolation, HasNoWaveform, HasViolation};
 ghost use Rattle.bm_cli.specs.Words.{AskNothing, Asks, Request, texts};
 ghost use Rattle.bm_cli.specs.Yields.{Ends, Printed, Yields};
 
@@ -31,6 +31,18 @@ pub fn run<F: Shelf, S: Sink>(alloc: Global, words: &[String], shelf: &mut F, ou
     ensures waveform_refused { (request : Request) (held : Held) → Asks (texts words.now) request → F.held shelf.old ≡ Some held → HasNoWaveform request held →
         Yields Status.Waveform result (FailsReadingOf request (F.reads shelf.old) (F.reads shelf.new)) (Rose (S.faults out.old) (S.faults out.new)) }
 
+    // Status 1 comes exactly where no cycle of STIM violates, but for a fault of reading.
+    ensures no_violation { result ≡ Status.No → AskFor (texts words.now) (λ request. IfSome (F.held shelf.old) (HasNoViolation request)) }
+    ensures no_violation_found { (request : Request) (held : Held) → Asks (texts words.now) request → F.held shelf.old ≡ Some held → HasNoViolation request held →
+        Yields Status.No result (FailsReadingOf request (F.reads shelf.old) (F.reads shelf.new)) (Rose (S.faults out.old) (S.faults out.new)) }
+
+    // Status 0 comes exactly where some cycle violates, but for faults. Then OUT holds the text of STIM cut off after its
+    // first violating cycle, with the checker's bits, and the line has the numbers of both.
+    ensures minimised { result ≡ Status.Done → AskFor (texts words.now) (λ request. IfSome (F.held shelf.old) (λ held. IsDone request held (F.held shelf.new) (S.taken out.old) (S.taken out.new))) }
+    ensures violation_found { (request : Request) (held : Held) → Asks (texts words.now) request → F.held shelf.old ≡ Some held → HasViolation request held →
+        Yields Status.Done result (FailsReadingOf request (F.reads shelf.old) (F.reads shelf.new))
+            (Rose (S.faults out.old) (S.faults out.new) ⊎ Rose (count_of (F.writes shelf.old) request.out) (count_of (F.writes shelf.new) request.out)) }
+
     // Faults have their causes.
     ensures read_fault { result ≡ Status.ReadFault →
         FailsReading (texts words.now) (F.reads shelf.old) (F.reads shelf.new) }
@@ -48,7 +60,7 @@ pub fn run<F: Shelf, S: Sink>(alloc: Global, words: &[String], shelf: &mut F, ou
 
 fn command<F: Shelf>(alloc: Global, words: &[String], shelf: &mut F) -> Result<Summary, Stop>
     ensures reason { CommandReason (texts words.now) (F.held shelf.old) (record { reads = F.reads shelf.old; reads_now = F.reads shelf.new; writes = F.writes shelf.old; writes_now = F.writes shelf.new }) result }
-    ensures written { OnOk result (HoldsAsked (texts words.now) (F.held shelf.old) (F.held shelf.new)) }
+    ensures written { IfOk result (λ summary. HoldsAsked (texts words.now) summary (F.held shelf.old) (F.held shelf.new)) }
     ensures part { OnErr result (MayHoldPart (texts words.now) (F.held shelf.old) (F.held shelf.new)) }
     ensures refused { (refusal : Refusal) → result ≡ Err (Stop.Refused refusal) → F.held shelf.new ≡ F.held shelf.old }
 {
@@ -61,7 +73,7 @@ fn command<F: Shelf>(alloc: Global, words: &[String], shelf: &mut F) -> Result<S
 // Prints the line of what the command came to, if it has one, and gives its status.
 fn finish<S: Sink>(alloc: Global, outcome: Result<Summary, Stop>, out: &mut S) -> Status
     ensures ends { Ends outcome result (Rose (S.faults out.old) (S.faults out.new)) }
-    ensures printed { PrintsForStatus result (S.taken out.old) (S.taken out.new) }
+    ensures printed { PrintsOutcome outcome result (S.taken out.old) (S.taken out.new) }
 {
     match outcome {
         Ok(summary) => print(alloc, &Answer::Minimised(summary), out),

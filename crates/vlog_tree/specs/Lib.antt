@@ -1,0 +1,7 @@
+pub mod Keys
+pub mod Machine
+pub mod Names
+pub mod Run
+pub mod Step
+pub mod Value
+pub mod Violations

@@ -17,7 +17,7 @@ returns-clause-read c =
     let are : AreTokens 0 c.args.bytes.now (toks c.deref.result.now) = subst (λ ts. AreTokens 0 c.args.bytes.now (toks ts)) (sym c.deref.ensures.value)
     (subst (λ found. IfSome found (λ t. AreTokens 0 c.args.bytes.now (toks t.items))) c.in-Some.is c.in_ok-tokens.ensures.spelled) in
     circuit_read (names_of c.args.names.now) c.args.bytes.now (toks c.deref.result.now) c.in_ok-design.design c.circuit.result are
-    c.in_ok-design.ensures.spelled c.circuit.ensures.form c.circuit.ensures.labels
+    c.in_ok-design.ensures.spelled c.circuit.ensures.form c.circuit.ensures.circuit c.circuit.ensures.wired c.circuit.ensures.labels
 
 pub returns-clause-refused : goal.returns-clause-refused
 returns-clause-refused c = λ form design text.
