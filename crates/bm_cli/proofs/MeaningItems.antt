@@ -19,7 +19,7 @@ use Rattle.vlog_tree.specs.declared.left.Left.TheVariants as left
 use Rattle.vlog_tree.specs.declared.stmt.Stmt.TheVariants.{Set}
 use Rattle.vlog_tree.specs.Names.{declared_width, declares_input, declares_register, range_width}
 use Rattle.vlog_tree.specs.Step.{after_item, known}
-use Rattle.vlog_tree.specs.Value.{Reading, drives, place_in}
+use Rattle.vlog_tree.specs.Value.{Reading, drives, is_right_end, place_in}
 use Rattle.bm_cli.specs.FirstForm.{Text, are_gate_ins, are_gate_outs, declared_name, driven_name, first_left, input_name, is_plain_item, is_plain_kind, is_whole, is_whole_left, left_name, net_name, register_name, taken_name, whole_name, written_name}
 use Rattle.bm_cli.specs.Wired.{is_gate}
 use Rattle.bm_cli.proofs.MeaningParts.{holds}
@@ -114,13 +114,13 @@ outs_view (x ∷ y ∷ outs) h =
 gate_outs : (at : ℕ) (kind : GateKind) (name : Option Text) (outs : List Left) (ins : List Expr) → is_plain_item (Gate at kind name outs ins) ≡ true → are_gate_outs outs ≡ true
 gate_outs at kind name outs ins p = (and_parts (is_none name) (are_gate_outs outs) (and_parts (is_none name && are_gate_outs outs) (are_gate_ins kind ins) p).0).1
 
-placed : (b a : Text) → (is_some {T = ℕ} (cond (bytes_eq b a) (Some 0) None) || false) ≡ bytes_eq b a
+placed : (b a : Text) → (is_right_end (cond (bytes_eq b a) (Some 0) None) || false) ≡ bytes_eq b a
 placed b a = elim (cases_Bool (bytes_eq b a)) [ inl e ↦ rw e refl | inr e ↦ rw e refl ]
 
-outs_drive : (outs : List Left) (a : Text) → are_gate_outs outs ≡ true → list_any (λ out. is_some (place_in out a 0)) outs ≡ holds (first_left outs) a
+outs_drive : (outs : List Left) (a : Text) → are_gate_outs outs ≡ true → list_any (λ out. is_right_end (place_in out a 0)) outs ≡ holds (first_left outs) a
 outs_drive outs a h =
     let one = outs_view outs h in
-    subst (λ os. list_any (λ out. is_some (place_in out a 0)) os ≡ holds (first_left os) a) (sym one.2) (placed one.1 a)
+    subst (λ os. list_any (λ out. is_right_end (place_in out a 0)) os ≡ holds (first_left os) a) (sym one.2) (placed one.1 a)
 
 outs_some : (outs : List Left) → are_gate_outs outs ≡ true → is_some (first_left outs) ≡ true
 outs_some outs h =

@@ -1,4 +1,5 @@
-ghost use Rattle.std.specs.Prelude.{None, IfOk, ◌≤◌, length};
+ghost use Rattle.std.specs.Prelude.{None, IfOk, ◌≡◌, ◌≤◌, length};
+ghost use Rattle.std.specs.FinMap.{empty};
 
 use bm_base::{Counts, Fault, Shelf};
 use std::alloc::Global;
@@ -18,7 +19,11 @@ pub struct OsShelf<'r, R> {
 }
 
 impl<'r, R: Files> OsShelf<'r, R> {
-    pub fn new(alloc: Global, rt: &'r R) -> OsShelf<'r, R> {
+    /// A shelf that has counted no fault.
+    pub fn new(alloc: Global, rt: &'r R) -> OsShelf<'r, R>
+        ensures reads { result.reads ≡ empty }
+        ensures writes { result.writes ≡ empty }
+    {
         OsShelf {
             rt,
             reads: Counts::new(alloc),

@@ -1,4 +1,4 @@
-ghost use Rattle.std.specs.Prelude.{None};
+ghost use Rattle.std.specs.Prelude.{None, ◌≡◌};
 
 use bm_base::{Fault, Sink};
 use std::io;
@@ -12,7 +12,10 @@ pub struct OsSink<'r, R> {
 }
 
 impl<'r, R: Print> OsSink<'r, R> {
-    pub fn new(rt: &'r R) -> OsSink<'r, R> {
+    /// A sink that has counted no fault.
+    pub fn new(rt: &'r R) -> OsSink<'r, R>
+        ensures { result.faults ≡ 0 }
+    {
         OsSink { rt, faults: 0 }
     }
 }

@@ -1,5 +1,5 @@
 -- The bits of a design, and the orders of its registers and its inputs.
-use Rattle.std.specs.Prelude.{ℕ, ◌==◌, List, [], ◌∷◌, Bool, not, ◌&&◌, bytes_eq, filter, map}
+use Rattle.std.specs.Prelude.{◌==◌, List, [], Bool, not, ◌&&◌, bytes_eq, filter, map}
 use Rattle.std.specs.List.{find, flat_map, range_with_len}
 use Rattle.std.specs.Option.{option_map, option_to_list}
 use Rattle.std.specs.Cmp.Lexicographic.{pointwise}
@@ -37,7 +37,7 @@ name_keys instance name = map (λ bit. record { path = instance.path; name = nam
 
 -- the bits of some names of each instance
 abbrev pub keys_of : (Module → List Text) → List Instance → List Key
-keys_of choice instances = flat_map (λ instance. flat_map (name_keys instance) (choice instance.definition)) instances
+keys_of choice each = flat_map (λ instance. flat_map (name_keys instance) (choice instance.definition)) each
 
 abbrev pub all_keys : Machine → List Key
 all_keys machine = keys_of names (instances machine)
@@ -47,7 +47,7 @@ abbrev pub register_keys : Machine → List Key
 register_keys machine = keys_of registers (instances machine)
 
 abbrev pub without : Text → List Text → List Text
-without name names = filter (λ other. not (bytes_eq other name)) names
+without name some = filter (λ other. not (bytes_eq other name)) some
 
 -- A row has one truth value for each of these, in this order.
 abbrev pub input_keys : Machine → List Key

@@ -1,5 +1,5 @@
 -- The names of a module, and what is declared of them.
-use Rattle.std.specs.Prelude.{ℕ, ◌+◌, ◌-◌, List, [], ◌∷◌, ◌++◌, Bool, true, false, not, Option, Some, None, bytes_eq, filter, filter_map, cond, unwrap_or}
+use Rattle.std.specs.Prelude.{ℕ, ◌+◌, ◌-◌, List, [], ◌∷◌, ◌++◌, Bool, false, not, Option, Some, None, bytes_eq, filter, filter_map, cond}
 use Rattle.std.specs.List.{list_any}
 use Rattle.bm_base.specs.declared.range.Range.{Range}
 use Rattle.vlog_tree.specs.declared.design.Module.{Module}
@@ -20,7 +20,8 @@ abbrev pub firsts : List Text → List Text
 firsts [] = []
 firsts (name ∷ names) = name ∷ filter (λ other. not (bytes_eq other name)) (firsts names)
 
--- The names of a module in their order: the ports by the header, and then the others by their first declaration.
+-- The names of a module in their order: the ports by the header, and then the others by their first declaration. So far
+-- each name is declared.
 abbrev pub names : Module → List Text
 names m = firsts (m.ports ++ filter_map declared_name m.items)
 
@@ -40,7 +41,7 @@ registers m = filter (λ name. list_any (declares_register name) m.items) (names
 abbrev pub inputs : Module → List Text
 inputs m = filter (λ name. list_any (declares_input name) m.items) (names m)
 
--- how many bits a range has
+-- how many bits a range has, where `-` stops at 0
 abbrev pub range_width : Option Range → ℕ
 range_width None = 1
 range_width (Some range) = (range.left - range.right) + (range.right - range.left) + 1

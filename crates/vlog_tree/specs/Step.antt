@@ -1,6 +1,7 @@
 -- The next state, the checker and the first state of a machine.
 use Rattle.std.specs.Prelude.{ℕ, List, [], ◌∷◌, Bool, false, Option, Some, None, map, unwrap_or}
 use Rattle.std.specs.List.{fold, zip}
+use Rattle.vlog_tree.specs.declared.expr.Expr.{Expr}
 use Rattle.vlog_tree.specs.declared.item.Item.{Item}
 use Rattle.vlog_tree.specs.declared.item.Item.TheVariants.{Always}
 use Rattle.vlog_tree.specs.declared.key.Key.{Key}
@@ -10,18 +11,18 @@ use Rattle.vlog_tree.specs.Keys.{register_keys}
 use Rattle.vlog_tree.specs.Machine.{Machine}
 use Rattle.vlog_tree.specs.Value.{Reading, expr_bit, items_at, place_in, value}
 
--- the value, and 0 where there is none, which no loop-free design has
+-- The value, and 0 where there is none. A bit of a loop-free design always has one.
 abbrev pub known : Option Bool → Bool
 known value = unwrap_or value false
 
 -- the bit of the right side that an assignment gives, or the bit before it where it gives none
-abbrev pub assigned : Reading → Key → Bool → Stmt → Option ℕ → Bool
-assigned read key before (Set at left right) (Some place) = known (expr_bit read key.path right place)
-assigned read key before other place = before
+abbrev pub assigned : Reading → Key → Bool → Expr → Option ℕ → Bool
+assigned read key before right (Some place) = known (expr_bit read key.path right place)
+assigned read key before right None = before
 
 -- A register's bit after a statement, by its bit before it. So far a statement is one assignment.
 abbrev pub after_statement : Reading → Key → Bool → Stmt → Bool
-after_statement read key before (Set at left right) = assigned read key before (Set at left right) (place_in left key.name key.bit)
+after_statement read key before (Set at left right) = assigned read key before right (place_in left key.name key.bit)
 after_statement read key before other = before
 
 abbrev pub after_item : Reading → Key → Bool → Item → Bool

@@ -1,7 +1,7 @@
 -- The value of a bit in a state under a row, read from the syntax tree by need (IEEE 1364-2005, clauses 5 and 7, two-valued).
-use Rattle.std.specs.Prelude.{◌≡◌, ℕ, zero, suc, List, [], ◌∷◌, Bool, true, false, not, ◌&&◌, Option, Some, None, All, bytes_eq, cond, length, map}
+use Rattle.std.specs.Prelude.{◌≡◌, ℕ, ◌==◌, zero, suc, List, [], ◌∷◌, Bool, false, not, ◌&&◌, Option, Some, None, All, bytes_eq, cond, length, map}
 use Rattle.std.specs.List.{find, list_all, list_any}
-use Rattle.std.specs.Option.{IsSome, is_some, option_and_then, option_map, option_or}
+use Rattle.std.specs.Option.{IsSome, option_and_then, option_map, option_or}
 use Rattle.vlog_tree.specs.declared.expr.Expr.{Expr}
 use Rattle.vlog_tree.specs.declared.expr.Expr.TheVariants as expr
 use Rattle.vlog_tree.specs.declared.item.GateKind.{GateKind}
@@ -19,7 +19,7 @@ use Rattle.vlog_tree.specs.Names.{Text}
 abbrev pub Reading : Type 0
 Reading = Key → Option Bool
 
--- the entry of the key
+-- The value beside the key, where the key is one of these. There is one value for each key.
 abbrev pub entry : List Key → List Bool → Reading
 entry [] values key = None
 entry (other ∷ keys) [] key = None
@@ -53,15 +53,20 @@ all_of [] = Some []
 all_of (None ∷ values) = None
 all_of (Some value ∷ values) = option_map (λ others. value ∷ others) (all_of values)
 
--- the gate's function
+-- the function of a gate, which so far is `and` or `not`
 abbrev pub gate_bit : GateKind → List Bool → Option Bool
 gate_bit And ins = Some (list_all (λ value. value) ins)
 gate_bit Not (only ∷ []) = Some (not only)
 gate_bit kind ins = None
 
+-- The place is the right end of a left side, which is the one bit that a gate drives.
+abbrev pub is_right_end : Option ℕ → Bool
+is_right_end None = false
+is_right_end (Some place) = place == 0
+
 -- The item drives the bit. So far only gates drive one.
 abbrev pub drives : Key → Item → Bool
-drives key (Gate at kind name outs ins) = list_any (λ out. is_some (place_in out key.name key.bit)) outs
+drives key (Gate at kind name outs ins) = list_any (λ out. is_right_end (place_in out key.name key.bit)) outs
 drives key other = false
 
 -- what the item gives to the bit that it drives
