@@ -41,7 +41,7 @@ module _ (machine : Machine) (circuit : Circuit) (is : IsMachine machine circuit
   cut_minimised labels text summary cut =
       let n : ℕ = cut.cycle + 1 in
       let bits : take n (checks circuit (zeros circuit) rows) ≡ run.checks machine (take n rows) =
-          ap (take n) (sym (runs_agree machine circuit is rows wide)) ∙ sym (checks_cut machine n rows) in
+      ap (take n) (sym (runs_agree machine circuit is rows wide)) ∙ sym (checks_cut machine n rows) in
       record {
         kept = n;
         trace = take n rows;

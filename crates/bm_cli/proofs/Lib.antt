@@ -13,6 +13,7 @@ pub mod GrammarLemmas
 pub mod GrammarSound
 pub mod LabelLemmas
 pub mod LineLemmas
+pub mod LoopFree
 pub mod Meaning
 pub mod MeaningEntries
 pub mod MeaningGates
@@ -33,6 +34,7 @@ pub mod ReasonLemmas
 pub mod Scalars
 pub mod SignalLemmas
 pub mod SimulationLemmas
+pub mod SomeGates
 pub mod TokenLemmas
 pub mod ToldLemmas
 pub mod TopLemmas

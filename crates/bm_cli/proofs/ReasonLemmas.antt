@@ -62,7 +62,7 @@ pub input_told : (request : Request) (held mid : Option Held) (circuit : Circuit
 input_told request None mid circuit labels rows P read same waveform holds = tt
 input_told request (Some held) mid circuit labels rows P read same waveform holds =
     let told : IsWaveform labels (bytes_under held request.stimulus) rows =
-        subst (λ h. IfSome h (λ held. IsWaveform labels (bytes_under held request.stimulus) rows)) same waveform in
+    subst (λ h. IfSome h (λ held. IsWaveform labels (bytes_under held request.stimulus) rows)) same waveform in
     (read.design, rows, read.told, subst (λ l. IsWaveform l (bytes_under held request.stimulus) rows) read.labelled told, holds told.text.widths)
 
 -- The fault that a step gave is passed on.

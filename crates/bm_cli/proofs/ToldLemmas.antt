@@ -32,18 +32,18 @@ module _ (request : Request) (held mid : Option Held) (circuit : Circuit) (label
   pub out_told : (text : List ℕ) (summary : Summary) → IsCutOff circuit labels rows text summary → IsOutText request held text summary
   out_told text summary cut =
       input_told request held mid circuit labels rows (λ design rows. IsMinimised (machine_of request.names design) (design_labels request.names design) rows text summary) read same waveform
-          (λ wide. subst (λ l. IsMinimised (machine_of request.names read.design) l rows text summary) read.labelled
-              (cut_minimised (machine_of request.names read.design) circuit read.machine rows (width wide) labels text summary cut))
+      (λ wide. subst (λ l. IsMinimised (machine_of request.names read.design) l rows text summary) read.labelled
+      (cut_minimised (machine_of request.names read.design) circuit read.machine rows (width wide) labels text summary cut))
 
   pub violation_told : (text : List ℕ) (summary : Summary) → IsCutOff circuit labels rows text summary → IfSome held (HasViolation request)
   violation_told text summary cut =
       input_told request held mid circuit labels rows (λ design rows. Violates (machine_of request.names design) rows) read same waveform
-          (λ wide. cut_violates (machine_of request.names read.design) circuit read.machine rows (width wide) cut.cycle cut.first)
+      (λ wide. cut_violates (machine_of request.names read.design) circuit read.machine rows (width wide) cut.cycle cut.first)
 
   pub no_violation_told : first_bad circuit (zeros circuit) rows ≡ None → IfSome held (HasNoViolation request)
   no_violation_told none =
       input_told request held mid circuit labels rows (λ design rows. Violates (machine_of request.names design) rows → ⊥) read same waveform
-          (λ wide. uncut (machine_of request.names read.design) circuit read.machine rows (width wide) none)
+      (λ wide. uncut (machine_of request.names read.design) circuit read.machine rows (width wide) none)
 
   -- The cut stopped for want of memory, or since there is no violation.
   pub cut_stopped : (counts : CallCounts) (stop : Stop) → (stop ≡ Refused NoViolation) ⊎ (stop ≡ Memory)

@@ -231,7 +231,7 @@ one_rows : (request : Request) (held : Held) (design : Design) (rows others : Li
     → HasWaveform request held design rows → HasWaveform request held design others → rows ≡ others
 one_rows request held design rows others netlist first second =
     one_trace (design_labels request.names design) (labels_are_scalars request.names design) (labels_are_words request.names (bytes_under held request.netlist) design netlist.text)
-        (bytes_under held request.stimulus) (let short = first.short in omega arith) rows others first.text.some second.text.some first.text.widths second.text.widths first.text.text second.text.text
+    (bytes_under held request.stimulus) (let short = first.short in omega arith) rows others first.text.some second.text.some first.text.widths second.text.widths first.text.text second.text.text
 
 -- Not both: some cycle violates, and none does.
 not_both : (request : Request) (held : Held) → HasViolation request held → HasNoViolation request held → ⊥
@@ -270,7 +270,7 @@ violation_yields request held counts (Err (Refused NetlistForm)) s printing reas
 violation_yields request held counts (Err (Refused WaveformForm)) s printing reason ends some = absurd (no_rows request held reason some)
 violation_yields request held counts (Err (Refused ReadFault)) s printing reason ends some =
     read_yields status.Done s (FailsReadingOf request counts.reads counts.reads_now) (printing ⊎ WriteRose counts request.out) (read_either request counts (Some held) reason)
-        (caused_or status.ReadFault s printing (WriteRose counts request.out) ends)
+    (caused_or status.ReadFault s printing (WriteRose counts request.out) ends)
 violation_yields request held counts (Err WriteFault) s printing reason ends some = inr (inr (inl (ends, inr reason.0)))
 violation_yields request held counts (Err Memory) s printing reason ends some = inr (inr (inr ends))
 

@@ -9,6 +9,7 @@ pub mod Grammar
 pub mod GrammarReads
 pub mod Input
 pub mod Labels
+pub mod LoopFree
 pub mod Means
 pub mod Minimise
 pub mod Named

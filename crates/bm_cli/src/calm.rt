@@ -1,14 +1,16 @@
 //! The top call over a shelf and a sink that never fail.
 ghost use Rattle.std.specs.Prelude.{◌≡◌, ◌≢◌, ◌⊎◌, Some};
-ghost use Rattle.bm_cli.specs.Command.{LeavesShelf};
+ghost use Rattle.bm_cli.specs.Command.{AskFor, IsDone, LeavesShelf};
 ghost use Rattle.bm_cli.specs.Printed.{PrintsForStatus};
-ghost use Rattle.bm_cli.specs.Words.{AskNothing, texts};
+ghost use Rattle.bm_cli.specs.Verdict.{HasNoNetlist, HasNoViolation, HasNoWaveform, HasViolation};
+ghost use Rattle.bm_cli.specs.Words.{AskNothing, Asks, Request, texts};
 
 use crate::run;
 use bm_base::{CalmShelf, CalmSink, Status};
 use std::alloc::Global;
 
-/// `run`, where no fault can come from outside. So neither a read fault nor a write fault is answered.
+/// `run`, where no fault can come from outside. So neither a read fault nor a write fault is answered, and each other
+/// answer comes exactly where it has its reason, but for want of memory.
 pub fn run_calmly(
     alloc: Global,
     words: &[String],
@@ -19,6 +21,14 @@ pub fn run_calmly(
     ensures no_write_fault { result ≢ Status.WriteFault }
     ensures words { result ≡ Status.Words → AskNothing (texts words.now) }
     ensures words_refused { AskNothing (texts words.now) → (result ≡ Status.Words) ⊎ (result ≡ Status.Memory) }
+    ensures netlist { result ≡ Status.Netlist → AskFor (texts words.now) (λ request. HasNoNetlist request shelf.old) }
+    ensures netlist_refused { (request : Request) → Asks (texts words.now) request → HasNoNetlist request shelf.old → (result ≡ Status.Netlist) ⊎ (result ≡ Status.Memory) }
+    ensures waveform { result ≡ Status.Waveform → AskFor (texts words.now) (λ request. HasNoWaveform request shelf.old) }
+    ensures waveform_refused { (request : Request) → Asks (texts words.now) request → HasNoWaveform request shelf.old → (result ≡ Status.Waveform) ⊎ (result ≡ Status.Memory) }
+    ensures no_violation { result ≡ Status.No → AskFor (texts words.now) (λ request. HasNoViolation request shelf.old) }
+    ensures no_violation_found { (request : Request) → Asks (texts words.now) request → HasNoViolation request shelf.old → (result ≡ Status.No) ⊎ (result ≡ Status.Memory) }
+    ensures minimised { result ≡ Status.Done → AskFor (texts words.now) (λ request. IsDone request shelf.old (Some shelf.new) (Some out.old) (Some out.new)) }
+    ensures violation_found { (request : Request) → Asks (texts words.now) request → HasViolation request shelf.old → (result ≡ Status.Done) ⊎ (result ≡ Status.Memory) }
     ensures shelf { LeavesShelf (texts words.now) result (Some shelf.old) (Some shelf.new) }
     ensures printed { PrintsForStatus result (Some out.old) (Some out.new) }
 {

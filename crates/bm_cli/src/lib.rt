@@ -5,6 +5,7 @@ mod answer;
 mod calm;
 mod files;
 mod form;
+pub mod laws;
 mod minimise;
 mod netlist;
 #[cfg(test)]

@@ -41,7 +41,7 @@ pub fn run<F: Shelf, S: Sink>(alloc: Global, words: &[String], shelf: &mut F, ou
     ensures minimised { result ≡ Status.Done → AskFor (texts words.now) (λ request. IfSome (F.held shelf.old) (λ held. IsDone request held (F.held shelf.new) (S.taken out.old) (S.taken out.new))) }
     ensures violation_found { (request : Request) (held : Held) → Asks (texts words.now) request → F.held shelf.old ≡ Some held → HasViolation request held →
         Yields Status.Done result (FailsReadingOf request (F.reads shelf.old) (F.reads shelf.new))
-            (Rose (S.faults out.old) (S.faults out.new) ⊎ Rose (count_of (F.writes shelf.old) request.out) (count_of (F.writes shelf.new) request.out)) }
+        (Rose (S.faults out.old) (S.faults out.new) ⊎ Rose (count_of (F.writes shelf.old) request.out) (count_of (F.writes shelf.new) request.out)) }
 
     // Faults have their causes.
     ensures read_fault { result ≡ Status.ReadFault →

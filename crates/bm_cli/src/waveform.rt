@@ -39,13 +39,6 @@ pub fn read_waveform(alloc: Global, labels: &Labels, bytes: &[u8]) -> Result<Tra
     }
 }
 
-/// A text is that of one list of rows.
-pub(crate) fn a_text_has_one_trace(labels: &Labels, bytes: &[u8])
-    requires scalars { AreScalars labels.now.ports }
-    requires words { AreWords labels.now }
-    ensures { (rows others : List (List Bool)) → SpellsRows labels.now bytes.now rows → SpellsRows labels.now bytes.now others → rows ≡ others }
-{}
-
 // The rows that the lines of a written waveform give: a row stands before each edge, and one at the end.
 fn rows(alloc: Global, width: usize, bytes: &[u8]) -> Result<Trace, NoMemory>
     ensures width { IfOk result (λ trace. trace.width ≡ width) }

@@ -5,7 +5,6 @@ ghost use Rattle.vlog_tree.specs.declared.design.Design.{Design as Tree};
 ghost use Rattle.bm_cli.specs.Grammar.{SpellsDesign};
 ghost use Rattle.bm_cli.specs.GrammarReads as spec;
 ghost use Rattle.bm_cli.specs.GrammarReads.{Reads, ReadsAll, ReadsInto, ReadsToken};
-ghost use Rattle.bm_cli.specs.Spelling.{IsOneDesign};
 ghost use Rattle.bm_cli.specs.Tokens.{Tok, tok_of, toks};
 
 use super::token::{Token, TokenKind};
@@ -357,8 +356,3 @@ fn whole(alloc: Global, cursor: &mut Cursor) -> Result<Expr, FormFault>
         name: Name::new(alloc, word.text)?,
     })
 }
-
-/// Bytes spell one design at most.
-pub(crate) fn one_design()
-    ensures { IsOneDesign }
-{}

@@ -1,5 +1,6 @@
-use Rattle.std.proofs.Common.{inl, inr, ⊎_elim}
-use Rattle.bm_cli.proofs.CalmLemmas.{no_read_fails, no_write_fails, no_fault_at_0}
+use Rattle.std.proofs.Common.{inl, inr, ⊎_elim, refl}
+use Rattle.bm_base.specs.declared.status.Status.TheVariants.{Done, Netlist, No, Waveform}
+use Rattle.bm_cli.proofs.CalmLemmas.{calmly, no_fault_at_0, no_read_fails, no_read_of, no_rise, no_write_fails}
 use Rattle.bm_cli.proofs.calm.run_calmly.Goals as goal
 
 pub returns-clause-no_read_fault : goal.returns-clause-no_read_fault
@@ -11,3 +12,19 @@ returns-clause-no_write_fault c = λ is. ⊎_elim (λ printing. no_fault_at_0 pr
 pub returns-clause-words_refused : goal.returns-clause-words_refused
 returns-clause-words_refused c = λ nothing.
     ⊎_elim inl (⊎_elim (λ failed. absurd (no_fault_at_0 failed.1)) inr) (c.run.ensures.words_refused nothing)
+
+pub returns-clause-netlist_refused : goal.returns-clause-netlist_refused
+returns-clause-netlist_refused c = λ request asks holds.
+    calmly Netlist c.run.result _ _ (no_rise request.netlist) no_fault_at_0 (c.run.ensures.netlist_refused request c.args.shelf.now asks refl holds)
+
+pub returns-clause-waveform_refused : goal.returns-clause-waveform_refused
+returns-clause-waveform_refused c = λ request asks holds.
+    calmly Waveform c.run.result _ _ (no_read_of request) no_fault_at_0 (c.run.ensures.waveform_refused request c.args.shelf.now asks refl holds)
+
+pub returns-clause-no_violation_found : goal.returns-clause-no_violation_found
+returns-clause-no_violation_found c = λ request asks holds.
+    calmly No c.run.result _ _ (no_read_of request) no_fault_at_0 (c.run.ensures.no_violation_found request c.args.shelf.now asks refl holds)
+
+pub returns-clause-violation_found : goal.returns-clause-violation_found
+returns-clause-violation_found c = λ request asks holds.
+    calmly Done c.run.result _ _ (no_read_of request) (⊎_elim no_fault_at_0 (no_rise request.out)) (c.run.ensures.violation_found request c.args.shelf.now asks refl holds)

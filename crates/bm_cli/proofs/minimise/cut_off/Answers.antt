@@ -19,12 +19,16 @@ returns-clause-cut c =
     let first : first_bad circuit (zeros circuit) rows ≡ Some cycle = sym c.in_ok-cycle.ensures.first ∙ c.in-Some.is in
     let kept : c.keep.new.self.rows ≡ take (cycle + 1) rows = ap (λ t. t.rows) c.keep.ensures in
     let bits : c.set.new.self ≡ take (cycle + 1) (checks circuit (zeros circuit) rows) =
-        c.set.ensures ∙ ap (λ b. set b cycle true) c.in_ok-checks.ensures ∙ bits_cut (checks circuit (zeros circuit) rows) cycle first in
+    c.set.ensures ∙ ap (λ b. set b cycle true) c.in_ok-checks.ensures ∙ bits_cut (checks circuit (zeros circuit) rows) cycle first in
     let base : c.in_ok-base.base ≡ base_row labels = c.in_ok-base.ensures ∙ ap (λ n. replicate n false) (c.width.ensures.width ∙ c.requires.width ∙ sym c.requires.inputs) in
     record {
       cycle = cycle;
       first = first;
       written = c.in_ok-text.ensures ∙ ap (λ t. vcd t labels (Some c.set.new.self)) kept ∙ ap (λ b. vcd (take (cycle + 1) rows) labels (Some b)) bits;
-      counted = λ i. record { cycles_before = c.len-cycles_before.ensures.len i; events_before = (c.events-events_before.ensures ∙ ap (λ b. event_count b rows) base) i;
-          cycles = (c.len.ensures.len ∙ ap length kept) i; events = (c.events.ensures ∙ ap (λ b. event_count b c.keep.new.self.rows) base ∙ ap (event_count (base_row labels)) kept) i };
+      counted = λ i. record {
+        cycles_before = c.len-cycles_before.ensures.len i;
+        events_before = (c.events-events_before.ensures ∙ ap (λ b. event_count b rows) base) i;
+        cycles = (c.len.ensures.len ∙ ap length kept) i;
+        events = (c.events.ensures ∙ ap (λ b. event_count b c.keep.new.self.rows) base ∙ ap (event_count (base_row labels)) kept) i;
+      };
     }

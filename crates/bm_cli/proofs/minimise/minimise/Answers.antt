@@ -13,17 +13,17 @@ returns-in_err-trace-clause-reason g c =
     let counts : CallCounts = record { reads = g.F.Shelf.reads c.args.shelf.now; reads_now = g.F.Shelf.reads c.read_stimulus.new.shelf; writes = g.F.Shelf.writes c.args.shelf.now; writes_now = g.F.Shelf.writes c.read_stimulus.new.shelf } in
     passed_on (Reason (request_of c.args.asked.now) (g.F.Shelf.held c.args.shelf.now) counts) c.from_residual-in_err-trace.result c.in_err-trace.field-0.0 c.from_residual-in_err-trace.ensures.1
     (stimulus_stopped (request_of c.args.asked.now) (g.F.Shelf.held c.args.shelf.now) (g.F.Shelf.held c.read_netlist.new.shelf) counts
-        (g.F.Shelf.reads c.read_netlist.new.shelf) c.in_ok-circuit.circuit c.in_ok-circuit.labels c.in_err-trace.field-0.0
-        c.in_ok-circuit.ensures.read c.read_netlist.ensures.only_reads.held_stays c.read_netlist.ensures.only_reads.reads_rise
-        c.in_err-trace.ensures.stops (λ is words. c.in_err-trace.ensures.refused (ap Err is) words))
+    (g.F.Shelf.reads c.read_netlist.new.shelf) c.in_ok-circuit.circuit c.in_ok-circuit.labels c.in_err-trace.field-0.0
+    c.in_ok-circuit.ensures.read c.read_netlist.ensures.only_reads.held_stays c.read_netlist.ensures.only_reads.reads_rise
+    c.in_err-trace.ensures.stops (λ is words. c.in_err-trace.ensures.refused (ap Err is) words))
 
 pub returns-in_err-text-clause-reason : goal.returns-in_err-text-clause-reason
 returns-in_err-text-clause-reason g c =
     let counts : CallCounts = record { reads = g.F.Shelf.reads c.args.shelf.now; reads_now = g.F.Shelf.reads c.read_stimulus.new.shelf; writes = g.F.Shelf.writes c.args.shelf.now; writes_now = g.F.Shelf.writes c.read_stimulus.new.shelf } in
     passed_on (Reason (request_of c.args.asked.now) (g.F.Shelf.held c.args.shelf.now) counts) c.from_residual-in_err-text.result c.in_err-text.field-0.0 c.from_residual-in_err-text.ensures.1
     (cut_stopped (request_of c.args.asked.now) (g.F.Shelf.held c.args.shelf.now) (g.F.Shelf.held c.read_netlist.new.shelf) c.in_ok-circuit.circuit c.in_ok-circuit.labels c.in_ok-trace.trace.rows
-        c.in_ok-circuit.ensures.read c.read_netlist.ensures.only_reads.held_stays c.in_ok-trace.ensures.read c.in_ok-circuit.ensures.ports.1
-        counts c.in_err-text.field-0.0 c.in_err-text.ensures.stops (λ is. c.in_err-text.ensures.none (ap Err is)))
+    c.in_ok-circuit.ensures.read c.read_netlist.ensures.only_reads.held_stays c.in_ok-trace.ensures.read c.in_ok-circuit.ensures.ports.1
+    counts c.in_err-text.field-0.0 c.in_err-text.ensures.stops (λ is. c.in_err-text.ensures.none (ap Err is)))
 
 pub returns-in-Ok-clause-written : goal.returns-in-Ok-clause-written
 returns-in-Ok-clause-written g c = (
@@ -39,17 +39,17 @@ returns-in-Ok-clause-written g c = (
 pub returns-in-Ok-clause-reason : goal.returns-in-Ok-clause-reason
 returns-in-Ok-clause-reason g c =
     violation_told (request_of c.args.asked.now) (g.F.Shelf.held c.args.shelf.now) (g.F.Shelf.held c.read_netlist.new.shelf) c.in_ok-circuit.circuit c.in_ok-circuit.labels c.in_ok-trace.trace.rows
-        c.in_ok-circuit.ensures.read c.read_netlist.ensures.only_reads.held_stays c.in_ok-trace.ensures.read c.in_ok-circuit.ensures.ports.1
-        c.in_ok-text.text.items c.in_ok-text.summary c.in_ok-text.ensures.cut
+    c.in_ok-circuit.ensures.read c.read_netlist.ensures.only_reads.held_stays c.in_ok-trace.ensures.read c.in_ok-circuit.ensures.ports.1
+    c.in_ok-text.text.items c.in_ok-text.summary c.in_ok-text.ensures.cut
 
 pub returns-in-Err-Failed-clause-part : goal.returns-in-Err-Failed-clause-part
 returns-in-Err-Failed-clause-part g c =
     part_later (request_of c.args.asked.now) (g.F.Shelf.held c.args.shelf.now) (g.F.Shelf.held c.read_stimulus.new.shelf) (g.F.Shelf.held c.write_file.new.shelf) c.in_ok-text.text.items c.in_ok-text.summary
-        (c.read_stimulus.ensures.only_reads.held_stays ∙ c.read_netlist.ensures.only_reads.held_stays)
-        (out_told (request_of c.args.asked.now) (g.F.Shelf.held c.args.shelf.now) (g.F.Shelf.held c.read_netlist.new.shelf) c.in_ok-circuit.circuit c.in_ok-circuit.labels c.in_ok-trace.trace.rows
-            c.in_ok-circuit.ensures.read c.read_netlist.ensures.only_reads.held_stays c.in_ok-trace.ensures.read c.in_ok-circuit.ensures.ports.1
-            c.in_ok-text.text.items c.in_ok-text.summary c.in_ok-text.ensures.cut)
-        (subst (λ t. HoldsPrefix c.args.asked.now.out.now t (g.F.Shelf.held c.read_stimulus.new.shelf) (g.F.Shelf.held c.write_file.new.shelf)) c.deref.ensures.value c.in-Err-Failed.ensures.err)
+    (c.read_stimulus.ensures.only_reads.held_stays ∙ c.read_netlist.ensures.only_reads.held_stays)
+    (out_told (request_of c.args.asked.now) (g.F.Shelf.held c.args.shelf.now) (g.F.Shelf.held c.read_netlist.new.shelf) c.in_ok-circuit.circuit c.in_ok-circuit.labels c.in_ok-trace.trace.rows
+    c.in_ok-circuit.ensures.read c.read_netlist.ensures.only_reads.held_stays c.in_ok-trace.ensures.read c.in_ok-circuit.ensures.ports.1
+    c.in_ok-text.text.items c.in_ok-text.summary c.in_ok-text.ensures.cut)
+    (subst (λ t. HoldsPrefix c.args.asked.now.out.now t (g.F.Shelf.held c.read_stimulus.new.shelf) (g.F.Shelf.held c.write_file.new.shelf)) c.deref.ensures.value c.in-Err-Failed.ensures.err)
 
 pub returns-in-Err-Failed-clause-reason : goal.returns-in-Err-Failed-clause-reason
 returns-in-Err-Failed-clause-reason g c = (
@@ -63,8 +63,8 @@ returns-in-Err-Failed-clause-reason g c = (
 pub returns-clause-part : goal.returns-clause-part
 returns-clause-part g c =
     part_later (request_of c.args.asked.now) (g.F.Shelf.held c.args.shelf.now) (g.F.Shelf.held c.read_stimulus.new.shelf) (g.F.Shelf.held c.write_file.new.shelf) c.in_ok-text.text.items c.in_ok-text.summary
-        (c.read_stimulus.ensures.only_reads.held_stays ∙ c.read_netlist.ensures.only_reads.held_stays)
-        (out_told (request_of c.args.asked.now) (g.F.Shelf.held c.args.shelf.now) (g.F.Shelf.held c.read_netlist.new.shelf) c.in_ok-circuit.circuit c.in_ok-circuit.labels c.in_ok-trace.trace.rows
-            c.in_ok-circuit.ensures.read c.read_netlist.ensures.only_reads.held_stays c.in_ok-trace.ensures.read c.in_ok-circuit.ensures.ports.1
-            c.in_ok-text.text.items c.in_ok-text.summary c.in_ok-text.ensures.cut)
-        (subst (λ t. HoldsPrefix c.args.asked.now.out.now t (g.F.Shelf.held c.read_stimulus.new.shelf) (g.F.Shelf.held c.write_file.new.shelf)) c.deref.ensures.value c.in-Err-Memory.ensures.err)
+    (c.read_stimulus.ensures.only_reads.held_stays ∙ c.read_netlist.ensures.only_reads.held_stays)
+    (out_told (request_of c.args.asked.now) (g.F.Shelf.held c.args.shelf.now) (g.F.Shelf.held c.read_netlist.new.shelf) c.in_ok-circuit.circuit c.in_ok-circuit.labels c.in_ok-trace.trace.rows
+    c.in_ok-circuit.ensures.read c.read_netlist.ensures.only_reads.held_stays c.in_ok-trace.ensures.read c.in_ok-circuit.ensures.ports.1
+    c.in_ok-text.text.items c.in_ok-text.summary c.in_ok-text.ensures.cut)
+    (subst (λ t. HoldsPrefix c.args.asked.now.out.now t (g.F.Shelf.held c.read_stimulus.new.shelf) (g.F.Shelf.held c.write_file.new.shelf)) c.deref.ensures.value c.in-Err-Memory.ensures.err)

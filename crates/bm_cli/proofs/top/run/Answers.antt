@@ -24,13 +24,13 @@ pub returns-clause-no_violation_found : goal.returns-clause-no_violation_found
 returns-clause-no_violation_found g c = λ request held asks told none.
     let counts : CallCounts = record { reads = g.F.Shelf.reads c.args.shelf.now; reads_now = g.F.Shelf.reads c.command-outcome.new.shelf; writes = g.F.Shelf.writes c.args.shelf.now; writes_now = g.F.Shelf.writes c.command-outcome.new.shelf } in
     no_violation_yields request held counts c.command-outcome.result c.finish.result (Rose (g.S.Sink.faults c.args.out.now) (g.S.Sink.faults c.finish.new.out))
-        (reason_for (texts c.args.words.now) request (g.F.Shelf.held c.args.shelf.now) held counts c.command-outcome.result asks told c.command-outcome.ensures.reason) c.finish.ensures.ends none
+    (reason_for (texts c.args.words.now) request (g.F.Shelf.held c.args.shelf.now) held counts c.command-outcome.result asks told c.command-outcome.ensures.reason) c.finish.ensures.ends none
 
 pub returns-clause-violation_found : goal.returns-clause-violation_found
 returns-clause-violation_found g c = λ request held asks told some.
     let counts : CallCounts = record { reads = g.F.Shelf.reads c.args.shelf.now; reads_now = g.F.Shelf.reads c.command-outcome.new.shelf; writes = g.F.Shelf.writes c.args.shelf.now; writes_now = g.F.Shelf.writes c.command-outcome.new.shelf } in
     violation_yields request held counts c.command-outcome.result c.finish.result (Rose (g.S.Sink.faults c.args.out.now) (g.S.Sink.faults c.finish.new.out))
-        (reason_for (texts c.args.words.now) request (g.F.Shelf.held c.args.shelf.now) held counts c.command-outcome.result asks told c.command-outcome.ensures.reason) c.finish.ensures.ends some
+    (reason_for (texts c.args.words.now) request (g.F.Shelf.held c.args.shelf.now) held counts c.command-outcome.result asks told c.command-outcome.ensures.reason) c.finish.ensures.ends some
 
 pub returns-clause-minimised : goal.returns-clause-minimised
 returns-clause-minimised g c = done (texts c.args.words.now) (g.F.Shelf.held c.args.shelf.now) (g.F.Shelf.held c.command-outcome.new.shelf) c.command-outcome.result c.finish.result
@@ -45,4 +45,4 @@ pub returns-clause-write_fault : goal.returns-clause-write_fault
 returns-clause-write_fault g c =
     let counts : CallCounts = record { reads = g.F.Shelf.reads c.args.shelf.now; reads_now = g.F.Shelf.reads c.command-outcome.new.shelf; writes = g.F.Shelf.writes c.args.shelf.now; writes_now = g.F.Shelf.writes c.command-outcome.new.shelf } in
     write_fault (texts c.args.words.now) (g.F.Shelf.held c.args.shelf.now) (g.F.Shelf.held c.command-outcome.new.shelf) counts (g.S.Sink.faults c.args.out.now) (g.S.Sink.faults c.finish.new.out)
-        c.command-outcome.result c.finish.result c.command-outcome.ensures.reason c.finish.ensures.ends c.command-outcome.ensures.written c.command-outcome.ensures.refused
+    c.command-outcome.result c.finish.result c.command-outcome.ensures.reason c.finish.ensures.ends c.command-outcome.ensures.written c.command-outcome.ensures.refused

@@ -1,5 +1,5 @@
 use Rattle.bm_cli.proofs.DesignLaws.{one_spelled}
-use Rattle.bm_cli.proofs.netlist.grammar.one_design.Goals as goal
+use Rattle.bm_cli.proofs.laws.bytes_spell_one_design.Goals as goal
 
 pub returns : goal.returns
 returns c = one_spelled

@@ -1,6 +1,6 @@
 use Rattle.std.proofs.Common.{arith}
 use Rattle.bm_cli.proofs.WaveformLemmas.{one_trace}
-use Rattle.bm_cli.proofs.waveform.a_text_has_one_trace.Goals as goal
+use Rattle.bm_cli.proofs.laws.bytes_are_one_trace.Goals as goal
 
 pub returns : goal.returns
 returns c = λ rows others is is_others.

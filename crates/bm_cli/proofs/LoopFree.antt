@@ -1,0 +1,83 @@
+-- A design of the first form is loop-free.
+use Rattle.std.proofs.Common.{◌≡◌, ℕ, ◌-◌, ◌<◌, suc, List, [], ◌∷◌, Bool, true, false, cond, Some, None, Option, IsSome, is_some, bytes_eq, find, get_or, length, map, slice_get, arith, refl, ap, sym, ◌∙◌, subst, inl, inr}
+use Rattle.std.specs.Option.{option_or}
+use Rattle.std.proofs.lemmas.List.{length-map}
+use Rattle.std.proofs.lemmas.List.Elements.{All-map, All-same}
+use Rattle.std.proofs.lemmas.Option.{slice_get-get_or}
+use Rattle.vlog_tree.specs.declared.design.Design.{Design}
+use Rattle.vlog_tree.specs.declared.design.Module.{Module}
+use Rattle.vlog_tree.specs.declared.item.Item.{Item}
+use Rattle.vlog_tree.specs.declared.key.Key.{Key}
+use Rattle.vlog_tree.specs.Keys.{all_keys}
+use Rattle.vlog_tree.specs.Value.{IsLoopFree, by_driver, drives, entry, read, value}
+use Rattle.bm_cli.specs.FirstForm.{AreFirstForm, IsFirstForm, Text, declared, inputs, registers, sources, without}
+use Rattle.bm_cli.specs.Grammar.{SpellsDesign, SpellsModule}
+use Rattle.bm_cli.specs.LoopFree.{FirstFormIsLoopFree}
+use Rattle.bm_cli.specs.Means.{machine_of}
+use Rattle.bm_cli.specs.Tokens.{Tok}
+use Rattle.bm_cli.specs.TopNames.{TopNames}
+use Rattle.bm_cli.specs.Wired.{signals}
+use Rattle.bm_cli.proofs.MeaningEntries.{read_flat}
+use Rattle.bm_cli.proofs.MeaningItems.{key}
+use Rattle.bm_cli.proofs.MeaningKeys.{IsFlat, is_flat, module_names, top_alone}
+use Rattle.bm_cli.proofs.MeaningNames.{among_at, at_among, same_name}
+use Rattle.bm_cli.proofs.MeaningSignals.{declared_distinct, declared_signal}
+use Rattle.bm_cli.proofs.MeaningValues.{signal_value}
+use Rattle.bm_cli.proofs.SomeGates.{SomeGates, some_gates}
+
+-- ---- each name has a value
+
+some_last : (a b : Option Bool) (c : Bool) → is_some (option_or a (option_or b (Some c))) ≡ true
+some_last (Some x) b c = refl
+some_last None (Some y) c = refl
+some_last None None c = refl
+
+module _ (names : TopNames) (design : Design) (items : List Item) (flat : IsFlat (machine_of names design) items) (form : AreFirstForm names items) where
+  clock_value : (state row : List Bool) (steps : ℕ) → IsSome (read (machine_of names design) state row (suc steps) (key names.clock))
+  clock_value state row steps =
+      let clock : bytes_eq names.clock names.clock ≡ true = same_name names.clock in
+      ap is_some (read_flat (machine_of names design) items state row steps names.clock flat)
+      ∙ (λ i. is_some (option_or (entry (map key (registers items)) state (key names.clock)) (option_or (entry (map key (without names.clock (inputs items))) row (key names.clock))
+      (cond (clock i) (Some false) (by_driver (read (machine_of names design) state row steps) (key names.clock) (find (drives (key names.clock)) items))))))
+      ∙ some_last (entry (map key (registers items)) state (key names.clock)) (entry (map key (without names.clock (inputs items))) row (key names.clock)) false
+
+  name_value : (state row : List Bool) → length state ≡ length (registers items) → length row ≡ length (without names.clock (inputs items))
+      → (k : ℕ) (a : Text) → slice_get (declared items) k ≡ Some a → k < length (declared items) → IsSome (value (machine_of names design) state row (key a))
+  name_value state row long wide k a at lt = elim (declared_signal names items form a (at_among (declared items) k a at)) [
+    | inl s ↦ (
+        let some : length (all_keys (machine_of names design)) ≡ suc (length (declared items) - 1) = omega (arith, ap length flat.all, length-map (declared items) key, lt) in
+        subst (λ b. IsSome (value (machine_of names design) state row (key b))) (sym s)
+        (subst (λ steps. IsSome (read (machine_of names design) state row steps (key names.clock))) (sym some) (clock_value state row (length (declared items) - 1))))
+    | inr m ↦ (
+        let n : (n : ℕ) × (slice_get (signals names.clock items) n ≡ Some a) = among_at (signals names.clock items) a m in
+        let made : SomeGates (sources names.clock items) items = some_gates (sources names.clock items) items form.plain form.reads in
+        ap is_some (signal_value names design items made.gates flat form made.are made.order state row long wide n.0 a n.1))
+  ]
+
+  pub loop_free : IsLoopFree (machine_of names design)
+  loop_free state row long wide =
+      let P : Key → Type 0 = λ k. IsSome (value (machine_of names design) state row k) in
+      All-same P (all_keys (machine_of names design)) (map key (declared items)) flat.all (All-map P key (declared items) (λ k d lt.
+      name_value state row (long ∙ ap length flat.registers ∙ length-map (registers items) key) (wide ∙ ap length flat.inputs ∙ length-map (without names.clock (inputs items)) key)
+      k (get_or (declared items) k d) (slice_get-get_or (declared items) k d lt) lt))
+
+-- ---- the design is one flat module
+
+the_top : (a b : Module) (ms : List Module) → ms ≡ a ∷ [] → ms ≡ b ∷ [] → a ≡ b
+the_top a b ms e f = cc
+
+-- the flat machine of a module that is spelled
+spelled_flat : (names : TopNames) (design : Design) (ts : List Tok) (m : Module) → design.modules ≡ m ∷ [] → m.name ≡ names.top → SpellsModule ts m → AreFirstForm names m.items → IsFlat (machine_of names design) m.items
+spelled_flat names design ts m only named (word, name, opening, closing, semi, last, header, body, declared, rest, e, h1, h2, h3, ports, h4, h5, more, h6, at, called, all) form =
+    is_flat (machine_of names design) m (top_alone names design m only named)
+    (module_names m header declared rest ports all (declared_distinct names m.items form)) form.plain (declared_distinct names m.items form)
+
+-- and that of a design of the first form
+pub form_flat : (names : TopNames) (design : Design) (ts : List Tok) → SpellsDesign ts design → (form : IsFirstForm names design) → IsFlat (machine_of names design) form.top.items
+form_flat names design ts (found, only, spelled) form =
+    let same : found ≡ form.top = the_top found form.top design.modules only form.only in
+    spelled_flat names design ts form.top form.only form.name.same (subst (SpellsModule ts) same spelled) form.items
+
+pub first_form_is_loop_free : FirstFormIsLoopFree
+first_form_is_loop_free names bytes design text =
+    loop_free names design text.form.top.items (form_flat names design text.spelled.0 text.spelled.2 text.form) text.form.items
