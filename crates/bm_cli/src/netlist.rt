@@ -5,6 +5,7 @@ ghost use Rattle.bm_cli.specs.Asked.{names_of};
 ghost use Rattle.bm_cli.specs.Circuit.{IsInOrder};
 ghost use Rattle.bm_cli.specs.Input.{IsRead, SpellsNetlist};
 ghost use Rattle.bm_cli.specs.Named.{AreNamed};
+ghost use Rattle.bm_cli.specs.Spelling.{Spells};
 ghost use Rattle.bm_cli.specs.Waveform.{AreScalars};
 
 pub mod circuit;
@@ -20,6 +21,18 @@ use crate::words::Names;
 use circuit::Circuit;
 use std::alloc::Global;
 use trace_rows::Labels;
+use vlog_tree::Design;
+
+/// The design that the bytes of a netlist spell, whether or not it meets the conditions.
+pub fn design(alloc: Global, bytes: &[u8]) -> Result<Design, FormFault>
+    ensures spelled { IfOk result (λ design. Spells bytes.now design) }
+    ensures refused { IsErrOf result FormFault.Form → (design : Tree) → Spells bytes.now design → ⊥ }
+{
+    let Some(tokens) = token::tokens(alloc, bytes)? else {
+        return Err(FormFault::Form);
+    };
+    grammar::design(alloc, &tokens)
+}
 
 /// The circuit of a netlist, and the labels of its traces.
 pub fn read(alloc: Global, bytes: &[u8], names: &Names) -> Result<(Circuit, Labels), FormFault>
@@ -29,9 +42,6 @@ pub fn read(alloc: Global, bytes: &[u8], names: &Names) -> Result<(Circuit, Labe
     ensures read { IfOk result (λ read. IsRead (names_of names.now) bytes.now read.0 read.1) }
     ensures refused { IsErrOf result FormFault.Form → (design : Tree) → SpellsNetlist (names_of names.now) bytes.now design → ⊥ }
 {
-    let Some(tokens) = token::tokens(alloc, bytes)? else {
-        return Err(FormFault::Form);
-    };
-    let design = grammar::design(alloc, &tokens)?;
+    let design = design(alloc, bytes)?;
     wiring::circuit(alloc, &design, names)
 }

@@ -1,4 +1,5 @@
 // The worked examples, over files in memory. The waveforms are written out by hand.
+mod meaning;
 mod refusals;
 
 use crate::run;
