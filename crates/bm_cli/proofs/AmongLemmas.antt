@@ -1,6 +1,6 @@
 -- Names that are among names.
-use Rattle.std.proofs.Common.{◌≡◌, ℕ, zero, suc, List, [], ◌∷◌, ◌++◌, Bool, true, false, not, ◌&&◌, ◌||◌, cond, Option, Some, None, filter, filter_map, slice_get, refl, ap, ◌∙◌, sym, subst, ◌⊎◌, inl, inr}
-use Rattle.std.specs.List.{cons_option, find, list_all, list_any}
+use Rattle.std.proofs.Common.{◌≡◌, ℕ, zero, suc, List, [], ◌∷◌, ◌++◌, Bool, true, not, Option, Some, None, filter_map, slice_get, refl, ap, ◌∙◌, sym, subst, inl, inr}
+use Rattle.std.specs.List.{cons_option, list_all}
 use Rattle.std.specs.Str.{bytes_eq}
 use Rattle.std.proofs.lemmas.Bool.{false≢true, and_from, and_parts, cases_Bool, or_cases, or_left, or_right}
 use Rattle.std.proofs.lemmas.List.Folds.{list_any-append}

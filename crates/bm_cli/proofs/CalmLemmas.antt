@@ -4,8 +4,8 @@ use Rattle.std.specs.Ordering.{nat_cmp}
 use Rattle.std.specs.Cmp.Lexicographic.{slice_cmp}
 use Rattle.std.specs.FinMap.{empty, get-empty}
 use Rattle.bm_base.specs.Counts.{count_of, Rose}
-use Rattle.bm_cli.specs.Command.{FailsReading, FailsReadingOf, FailsWriting}
-use Rattle.bm_cli.specs.Words.{Request}
+use Rattle.bm_cli.specs.Command.{FailsReading, FailsReadingOf, FailsWriting, FailsWritingOf}
+use Rattle.bm_cli.specs.Words.{Command, Inputs, check, minimise}
 use Rattle.bm_cli.specs.Yields.{Yields}
 use Rattle.bm_base.specs.declared.status.Status.{Status}
 use Rattle.bm_base.specs.declared.status.Status.TheVariants.{Memory}
@@ -19,11 +19,15 @@ no_rise name rose = omega (arith, nothing_counted name, rose)
 pub no_read_fails : (words : List (List ℕ)) → FailsReading words empty empty → ⊥
 no_read_fails words fails = ⊎_elim (no_rise _) (no_rise _) fails.2
 
-pub no_read_of : (request : Request) → FailsReadingOf request empty empty → ⊥
-no_read_of request fails = ⊎_elim (no_rise request.netlist) (no_rise request.stimulus) fails
+pub no_read_of : (inputs : Inputs) → FailsReadingOf inputs empty empty → ⊥
+no_read_of inputs fails = ⊎_elim (no_rise inputs.netlist) (no_rise inputs.waveform) fails
+
+no_write_of : (command : Command) → FailsWritingOf command empty empty → ⊥
+no_write_of (minimise request) rose = no_rise request.out rose
+no_write_of (check inputs) none = none
 
 pub no_write_fails : (words : List (List ℕ)) → FailsWriting words empty empty → ⊥
-no_write_fails words fails = no_rise _ fails.2
+no_write_fails words fails = no_write_of fails.0 fails.2
 
 pub no_fault_at_0 : Rose 0 0 → ⊥
 no_fault_at_0 rose = omega (arith, rose)

@@ -1,17 +1,23 @@
--- The stimulus cut off by the circuit is that cut off by the machine.
-use Rattle.std.proofs.Common.{◌≡◌, ℕ, zero, suc, ◌+◌, ◌<◌, List, [], ◌∷◌, Bool, true, false, All, Some, None, length, map, position, take, set, replicate, get_or, refl, sym, ap, ◌∙◌, subst, arith}
+-- What the circuit says of a trace is what the machine says.
+use Rattle.std.proofs.Common.{◌≡◌, ℕ, zero, suc, ◌-◌, ◌<◌, List, [], ◌∷◌, Bool, true, false, All, Option, Some, None, length, position, take, set, replicate, get_or, refl, sym, ap, ◌∙◌, subst, arith}
+use Rattle.std.specs.Option.{IsSome}
+use Rattle.std.proofs.lemmas.List.{take_all}
 use Rattle.std.proofs.lemmas.List.Quantifiers.{position-Some}
 use Rattle.vcd_writer.specs.Waveform.{vcd}
+use Rattle.trace_rows.specs.Cut.{cut}
+use Rattle.trace_rows.specs.CutLemmas.{All-cut}
 use Rattle.trace_rows.specs.declared.labels.Labels.{Labels}
 use Rattle.vlog_tree.specs.Machine.{Machine}
-use Rattle.vlog_tree.specs.Run as run
-use Rattle.vlog_tree.specs.Run.{Violates}
-use Rattle.vlog_tree.specs.Violations.{checks_cut, first_violates}
-use Rattle.bm_cli.specs.CutOff.{IsCutOff, IsMinimised}
+use Rattle.vlog_tree.specs.Run.{IsFirstAtLast, Violates}
+use Rattle.vlog_tree.specs.Violations.{first_violates, last_is_first}
+use Rattle.bm_cli.specs.Acceptance.{HasLeastCut, IsAccepted}
+use Rattle.bm_cli.specs.Deletion.{EndsBad, IsFirstCut, NoCut, cut_bad}
 use Rattle.bm_cli.specs.Means.{IsMachine}
+use Rattle.bm_cli.specs.Minimised.{IsMinimised, IsReduced}
 use Rattle.bm_cli.specs.Simulation.{checks, first_bad, zeros}
 use Rattle.bm_cli.specs.declared.answer.Summary.{Summary}
 use Rattle.bm_cli.specs.declared.netlist.circuit.Circuit.{Circuit}
+use Rattle.bm_cli.proofs.DeletionLemmas.{checks_long, cuts_are_told, ends_are_told}
 use Rattle.bm_cli.proofs.MeaningRuns.{runs_agree, violations_are_told}
 
 -- Bits up to the first 1 are 0, but the last.
@@ -24,29 +30,58 @@ bits_up_to (suc cycle) (bit ∷ bits) within at before =
     let rest : set (replicate (suc cycle) false) cycle true ≡ take (suc cycle) bits = bits_up_to cycle bits (omega arith) at (λ k lt. before (suc k) (omega arith)) in
     ap (λ b. b ∷ set (replicate (suc cycle) false) cycle true) (sym first) ∙ ap (λ others. bit ∷ others) rest
 
-pub bits_cut : (bits : List Bool) (cycle : ℕ) → position (λ bit. bit) bits ≡ Some cycle → set (replicate (cycle + 1) false) cycle true ≡ take (cycle + 1) bits
+bits_cut : (bits : List Bool) (cycle : ℕ) → position (λ bit. bit) bits ≡ Some cycle → set (replicate (suc cycle) false) cycle true ≡ take (suc cycle) bits
 bits_cut bits cycle e =
     let first = position-Some (λ bit. bit) bits cycle false e in
-    let next : suc cycle ≡ cycle + 1 = omega arith in
-    subst (λ n. set (replicate n false) cycle true ≡ take n bits) next (bits_up_to cycle bits first.0 first.1 first.2)
+    bits_up_to cycle bits first.0 first.1 first.2
+
+-- Where the last row is the first bad one, its bit alone is 1.
+pub bits_of_end : (circuit : Circuit) (rows : List (List Bool)) → 0 < length rows → EndsBad circuit rows
+    → set (replicate (length rows) false) (length rows - 1) true ≡ checks circuit (zeros circuit) rows
+bits_of_end circuit rows some ends =
+    let bits : List Bool = checks circuit (zeros circuit) rows in
+    let many : suc (length rows - 1) ≡ length rows = omega arith in
+    subst (λ n. set (replicate n false) (length rows - 1) true ≡ take n bits) many (bits_cut bits (length rows - 1) ends)
+    ∙ take_all (length rows) bits (omega (arith, checks_long circuit (zeros circuit) rows))
 
 module _ (machine : Machine) (circuit : Circuit) (is : IsMachine machine circuit) (rows : List (List Bool)) (wide : All (λ row. length row ≡ circuit.inputs) rows) where
-  pub cut_violates : (cycle : ℕ) → first_bad circuit (zeros circuit) rows ≡ Some cycle → Violates machine rows
-  cut_violates cycle first = (cycle, first_violates machine rows cycle (ap (position (λ bit. bit)) (runs_agree machine circuit is rows wide) ∙ first))
+  pub bad_violates : (cycle : ℕ) → first_bad circuit (zeros circuit) rows ≡ Some cycle → Violates machine rows
+  bad_violates cycle first = (cycle, first_violates machine rows cycle (ap (position (λ bit. bit)) (runs_agree machine circuit is rows wide) ∙ first))
 
-  pub uncut : first_bad circuit (zeros circuit) rows ≡ None → Violates machine rows → ⊥
-  uncut none = (violations_are_told machine circuit is rows wide).none none
+  pub not_bad : first_bad circuit (zeros circuit) rows ≡ None → Violates machine rows → ⊥
+  not_bad none = (violations_are_told machine circuit is rows wide).none none
 
-  pub cut_minimised : (labels : Labels) (text : List ℕ) (summary : Summary) → IsCutOff circuit labels rows text summary → IsMinimised machine labels rows text summary
-  cut_minimised labels text summary cut =
-      let n : ℕ = cut.cycle + 1 in
-      let bits : take n (checks circuit (zeros circuit) rows) ≡ run.checks machine (take n rows) =
-      ap (take n) (sym (runs_agree machine circuit is rows wide)) ∙ sym (checks_cut machine n rows) in
-      record {
-        kept = n;
-        trace = take n rows;
-        front = refl;
-        first_at_last = (violations_are_told machine circuit is rows wide).first cut.cycle cut.first;
-        written = cut.written ∙ ap (λ b. vcd (take n rows) labels (Some b)) bits;
-        counted = cut.counted;
-      }
+  -- The first violation is the last cycle only where the circuit says so.
+  pub must_end : IsFirstAtLast machine rows → EndsBad circuit rows
+  must_end first = ap (position (λ bit. bit)) (sym (runs_agree machine circuit is rows wide)) ∙ last_is_first machine rows first
+
+  pub accepted_by : EndsBad circuit rows → NoCut circuit rows → IsAccepted machine rows
+  accepted_by ends minimal = record { first_at_last = ends_are_told machine circuit is rows wide ends; no_cut = cuts_are_told machine circuit is rows wide minimal }
+
+-- some bad cycle is a violation
+some_bad : (machine : Machine) (circuit : Circuit) → IsMachine machine circuit → (rows : List (List Bool)) → All (λ row. length row ≡ circuit.inputs) rows
+    → (found : Option ℕ) → first_bad circuit (zeros circuit) rows ≡ found → IsSome found → Violates machine rows
+some_bad machine circuit is rows wide (Some cycle) e some = bad_violates machine circuit is rows wide cycle e
+some_bad machine circuit is rows wide None e some = absurd cc
+
+-- The first cut of the circuit is the least of the machine.
+pub least_by : (machine : Machine) (circuit : Circuit) → IsMachine machine circuit → (rows : List (List Bool)) → All (λ row. length row ≡ circuit.inputs) rows
+    → (i : ℕ) → EndsBad circuit rows → IsFirstCut circuit rows 0 (Some i) → HasLeastCut machine rows i
+least_by machine circuit is rows wide i ends (from, within, some, before) = record {
+  first_at_last = ends_are_told machine circuit is rows wide ends;
+  within = within;
+  violates = some_bad machine circuit is (cut rows i) (All-cut (λ row. length row ≡ circuit.inputs) rows i wide) (cut_bad circuit rows i) refl some;
+  least = λ j lt. not_bad machine circuit is (cut rows j) (All-cut (λ row. length row ≡ circuit.inputs) rows j wide) (before j (omega arith) lt);
+}
+
+-- What the circuit reduced, the machine accepts.
+pub minimised_by : (machine : Machine) (circuit : Circuit) → IsMachine machine circuit → (labels : Labels) → length labels.ports ≡ circuit.inputs
+    → (rows : List (List Bool)) (text : List ℕ) (summary : Summary) → IsReduced circuit labels rows text summary → IsMinimised machine labels rows text summary
+minimised_by machine circuit is labels ports rows text summary made = record {
+  trace = made.trace;
+  widths = subst (λ n. All (λ row. length row ≡ n) made.trace) (sym ports) made.widths;
+  accepted = accepted_by machine circuit is made.trace made.widths made.ends made.minimal;
+  shorter = made.shorter;
+  written = made.written ∙ ap (λ b. vcd made.trace labels (Some b)) (sym (runs_agree machine circuit is made.trace made.widths));
+  counted = made.counted;
+}

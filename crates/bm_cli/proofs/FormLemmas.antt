@@ -1,5 +1,5 @@
 -- Lemmas on the conditions of the first form.
-use Rattle.std.proofs.Common.{◌≡◌, ℕ, ◌+◌, ◌<◌, List, [], ◌∷◌, ◌++◌, Bool, ◌||◌, Option, map, take, get_or, length, filter_map, ◌&&◌, true, false, IsTrue, ◌↔◌, drop, Some, slice_get, refl, ap, ◌∙◌, sym}
+use Rattle.std.proofs.Common.{◌≡◌, ℕ, ◌+◌, ◌<◌, List, [], ◌∷◌, ◌++◌, Bool, ◌||◌, Option, map, take, get_or, length, filter_map, ◌&&◌, true, false, IsTrue, ◌↔◌, refl, ap, ◌∙◌, sym}
 use Rattle.std.specs.List.{list_any, cons_option}
 use Rattle.std.proofs.lemmas.Bool.{false≢true}
 use Rattle.bm_cli.specs.FirstForm.{AreFirstForm, is_plain_item, are_declared, are_driven, are_written, are_taken, are_reads_known, sources}

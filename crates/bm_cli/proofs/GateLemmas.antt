@@ -1,7 +1,7 @@
 -- The gates of a circuit, item by item.
-use Rattle.std.proofs.Common.{◌≡◌, ℕ, zero, suc, ◌+◌, ◌<◌, List, [], ◌∷◌, ◌++◌, Bool, true, false, Option, Some, None, filter, filter_map, length, slice_get, arith, refl, ap, ◌∙◌, sym, subst, append_assoc, append-nil, length-append, is_none, ◌&&◌, ◌⊎◌, inl, inr, drop, get_or, take}
+use Rattle.std.proofs.Common.{◌≡◌, ℕ, zero, suc, ◌+◌, ◌<◌, List, [], ◌∷◌, ◌++◌, true, false, Option, Some, None, filter, length, slice_get, arith, refl, ap, ◌∙◌, sym, subst, append_assoc, append-nil, length-append, is_none, ◌&&◌, ◌⊎◌, inl, inr, drop, get_or, take}
 use Rattle.std.specs.List.{cons_option, list_all}
-use Rattle.std.proofs.lemmas.Bool.{false≢true, and_from, and_parts}
+use Rattle.std.proofs.lemmas.Bool.{false≢true, and_parts}
 use Rattle.std.proofs.lemmas.List.{drop_more, take_more}
 use Rattle.std.proofs.lemmas.List.Elements.{filter-append, filter_map-append}
 use Rattle.std.proofs.lemmas.Option.{none-some, same_Some, slice_get_within}

@@ -1,5 +1,5 @@
 -- What is spelled is read, whatever follows it.
-use Rattle.std.proofs.Common.{◌≡◌, ◌<◌, ◌≤◌, ◌+◌, ◌⊎◌, ℕ, zero, suc, Bool, true, false, List, [], ◌∷◌, ◌++◌, length, codes, Option, Some, None, ap, ◌∙◌, sym, refl, arith, inl, inr, append_assoc, append-nil, Result, Ok, Err, IfOk, IsErrOf, bytes_eq, length-append}
+use Rattle.std.proofs.Common.{◌≡◌, ◌<◌, ◌+◌, ℕ, zero, suc, true, false, List, [], ◌∷◌, ◌++◌, length, codes, Some, None, ap, ◌∙◌, sym, refl, arith, inl, inr, append_assoc, append-nil, Result, Ok, Err, IfOk, IsErrOf, bytes_eq, length-append}
 use Rattle.std.proofs.lemmas.Slice.Eq.{bytes_eq-Decides}
 use Rattle.vlog_tree.specs.declared.design.Design.{Design}
 use Rattle.vlog_tree.specs.declared.design.Module.{Module}

@@ -1,8 +1,8 @@
 -- A turn of each loop of the grammar, beside the recursion that says what it reads.
-use Rattle.std.proofs.Common.{◌≡◌, ◌<◌, ℕ, zero, suc, pred, Bool, true, false, List, [], ◌∷◌, ◌++◌, length, codes, Option, Some, None, ap, ◌∙◌, sym, arith}
+use Rattle.std.proofs.Common.{◌≡◌, ◌<◌, ℕ, zero, suc, pred, true, false, List, [], ◌∷◌, ◌++◌, length, codes, Some, ap, ◌∙◌, sym, arith}
 use Rattle.std.proofs.lemmas.List.{length-map}
 use Rattle.vlog_tree.specs.declared.item.Item.{Item}
-use Rattle.bm_cli.specs.GrammarReads.{Outcome, Parser, and_then, ◌>>=◌, ◌>>◌, pure, sees, read_expect, read_item, items_from, add_port, ports_from, read_header}
+use Rattle.bm_cli.specs.GrammarReads.{Outcome, and_then, ◌>>=◌, ◌>>◌, pure, sees, read_expect, read_item, items_from, add_port, ports_from, read_header}
 use Rattle.bm_cli.specs.Tokens.{Tok, tok_of, toks}
 use Rattle.bm_cli.specs.declared.netlist.token.Token.{Token}
 

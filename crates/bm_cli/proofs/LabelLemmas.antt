@@ -1,5 +1,5 @@
 -- The ports of the labels of a netlist of the first form.
-use Rattle.std.proofs.Common.{◌≡◌, List, All, None, length, map, refl, ap, ◌∙◌, sym, subst}
+use Rattle.std.proofs.Common.{◌≡◌, List, None, length, map, refl, ap, ◌∙◌, sym, subst}
 use Rattle.std.proofs.lemmas.List.{length-map}
 use Rattle.std.proofs.lemmas.List.Elements.{All-map}
 use Rattle.trace_rows.specs.declared.labels.Labels.{Labels}

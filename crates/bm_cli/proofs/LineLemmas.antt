@@ -1,9 +1,10 @@
 -- The lines of a waveform have no newline in them, so they are the pieces of the text.
 use Rattle.std.proofs.Common.{◌≡◌, ℕ, ◌+◌, ◌/◌, ◌%◌, ◌<◌, List, [], ◌∷◌, ◌++◌, Bool, true, false, not, ◌&&◌, Option, None, Some, suc, zero, map, reverse, take, drop, refl, ap, ◌∙◌, arith, codes, decimal, append_assoc, inl, inr}
+use Rattle.std.specs.Bool.{beq}
 use Rattle.std.specs.Fmt.{digits, digits_onto, digit_glyph}
 use Rattle.std.specs.Int.Digits.{digits_of}
 use Rattle.std.specs.List.{AllByRecursion, All, list_all}
-use Rattle.std.specs.Prelude.{◌==◌, if◌then◌else◌, nat_lt}
+use Rattle.std.specs.Prelude.{◌==◌, if◌then◌else◌, is_some, nat_lt}
 use Rattle.std.proofs.lemmas.Bool.{cases_eq}
 use Rattle.std.proofs.lemmas.Bool.Decides.{nat_tests}
 use Rattle.std.proofs.lemmas.List.Elements.{recursion_from_All}
@@ -14,11 +15,11 @@ use Rattle.bm_base.specs.declared.range.Range.{Range}
 use Rattle.trace_rows.specs.declared.labels.Labels.{Labels}
 use Rattle.trace_rows.specs.declared.labels.PortLabel.{PortLabel}
 use Rattle.vlog_words.specs.Words.{IsWord, is_word_start, is_word_byte}
-use Rattle.vcd_writer.specs.Code.{code_of, digit_byte, first_port, clock_code}
-use Rattle.vcd_writer.specs.Header.{header, port_lines, range_part, variable_line, opening_lines, closing_lines}
+use Rattle.vcd_writer.specs.Code.{code_of, digit_byte, first_port, clock_code, check_code}
+use Rattle.vcd_writer.specs.Header.{check_declaration, header, port_lines, range_part, variable_line, opening_lines, closing_lines}
 use Rattle.vcd_writer.specs.Line.{text_of}
-use Rattle.vcd_writer.specs.Value.{are_same, bit_digit, bit_digits, value_line, port_value_lines, port_change, port_change_lines}
-use Rattle.vcd_writer.specs.Waveform.{blocks, edge_block, first_block, later_blocks, row_block, row_time, edge_time, time_line}
+use Rattle.vcd_writer.specs.Value.{are_same, bit_digit, bit_digits, value_line, port_value_lines, port_change, port_change_lines, check_lines, check_change_lines}
+use Rattle.vcd_writer.specs.Waveform.{blocks, check_of, edge_block, first_block, later_blocks, row_block, row_time, edge_time, time_line}
 use Rattle.vcd_writer.specs.WrittenName.{is_plain, written_name}
 use Rattle.bm_cli.specs.Waveform.{AreWords}
 use Rattle.bm_cli.specs.WaveformLines.{lines_of}
@@ -107,13 +108,19 @@ lines_ports : (ports : List PortLabel) (n : ℕ) → AllByRecursion (λ port. Is
 lines_ports [] n h = tt
 lines_ports (port ∷ ports) n h = (line_variable port.width (code_of n) port.name port.range (line_code n) h.0, lines_ports ports (n + 1) h.1)
 
-lines_header : (labels : Labels) → AreWords labels → AreLines (header labels false)
-lines_header labels h =
+lines_declaration : (name : List ℕ) (checked : Bool) → IsWord name → AreLines (check_declaration name checked)
+lines_declaration name true h = (line_variable 1 check_code name None (line_code 1) h, tt)
+lines_declaration name false h = tt
+
+lines_header : (labels : Labels) (checked : Bool) → AreWords labels → AreLines (header labels checked)
+lines_header labels checked h =
     let opening = opening_lines labels.top ++ variable_line 1 clock_code labels.clock None ∷ [] in
+    let check = check_declaration labels.check checked in
     let ports = port_lines first_port labels.ports in
     let scope : IsLine (codes "$scope module " ++ written_name labels.top ++ codes " $end") = line_append (codes "$scope module " ++ written_name labels.top) (codes " $end") (line_append (codes "$scope module ") (written_name labels.top) refl (line_name labels.top h.0)) refl in
-    lines_append (opening ++ ports) closing_lines
-    (lines_append opening ports (refl, (refl, (scope, (line_variable 1 clock_code labels.clock None (line_code 0) h.1, tt)))) (lines_ports labels.ports first_port (recursion_from_All _ labels.ports h.2)))
+    let first : AreLines opening = (refl, (refl, (scope, (line_variable 1 clock_code labels.clock None (line_code 0) h.1, tt)))) in
+    lines_append (opening ++ check ++ ports) closing_lines
+    (lines_append (opening ++ check) ports (lines_append opening check first (lines_declaration labels.check checked h.2)) (lines_ports labels.ports first_port (recursion_from_All _ labels.ports h.3)))
     (refl, (refl, tt))
 
 -- values
@@ -143,35 +150,52 @@ lines_changes (port ∷ ports) n before row =
     lines_append (port_change n port (take port.width before) (take port.width row)) (port_change_lines (n + 1) ports (drop port.width before) (drop port.width row))
     (lines_change n port (take port.width before) (take port.width row)) (lines_changes ports (n + 1) (drop port.width before) (drop port.width row))
 
+lines_check : (check : Option Bool) → AreLines (check_lines check)
+lines_check None = tt
+lines_check (Some bit) = (line_value None (bit ∷ []) 1, tt)
+
+lines_check_change : (before now : Option Bool) → AreLines (check_change_lines before now)
+lines_check_change None now = lines_check now
+lines_check_change (Some before) None = tt
+lines_check_change (Some before) (Some now) =
+    elim (beq before now) as (λ b. AreLines (if b then [] else check_lines (Some now))) [ true ↦ tt | false ↦ lines_check (Some now) ]
+
 line_time : (n : ℕ) → IsLine (time_line n)
 line_time n = line_append (codes "#") (decimal n) refl (line_decimal n)
 
-lines_first : (ports : List PortLabel) (row : List Bool) → AreLines (first_block ports None row)
+lines_first : (ports : List PortLabel) (check : Option Bool) (row : List Bool) → AreLines (first_block ports check row)
 unfolding first_block
-lines_first ports row =
-    (line_time (row_time 0), (refl, (line_value None (false ∷ []) 0, lines_append (port_value_lines first_port ports row) (codes "$end" ∷ []) (lines_values ports first_port row) (refl, tt))))
+lines_first ports check row =
+    let values = port_value_lines first_port ports row in
+    let both : AreLines (check_lines check ++ values) = lines_append (check_lines check) values (lines_check check) (lines_values ports first_port row) in
+    (line_time (row_time 0), (refl, (line_value None (false ∷ []) 0, lines_append (check_lines check ++ values) (codes "$end" ∷ []) both (refl, tt))))
 
 lines_edge : (i : ℕ) → AreLines (edge_block i)
 unfolding edge_block
 lines_edge i = (line_time (edge_time i), (line_value None (true ∷ []) 0, tt))
 
-lines_row : (ports : List PortLabel) (i : ℕ) (before row : List Bool) → AreLines (row_block ports i None before None row)
+lines_row : (ports : List PortLabel) (i : ℕ) (check_before check : Option Bool) (before row : List Bool) → AreLines (row_block ports i check_before before check row)
 unfolding row_block
-lines_row ports i before row = (line_time (row_time i), (line_value None (false ∷ []) 0, lines_changes ports first_port before row))
+lines_row ports i check_before check before row =
+    let changes = port_change_lines first_port ports before row in
+    (line_time (row_time i), (line_value None (false ∷ []) 0, lines_append (check_change_lines check_before check) changes (lines_check_change check_before check) (lines_changes ports first_port before row)))
 
-lines_later : (ports : List PortLabel) (rows : List (List Bool)) (i : ℕ) (before : List Bool) → AreLines (later_blocks ports None i before rows)
-lines_later ports [] i before = tt
-lines_later ports (row ∷ rows) i before =
-    let block = row_block ports (i + 1) None before None row in
-    let later = later_blocks ports None (i + 1) row rows in
-    lines_append (edge_block i ++ block) later (lines_append (edge_block i) block (lines_edge i) (lines_row ports (i + 1) before row)) (lines_later ports rows (i + 1) row)
+lines_later : (ports : List PortLabel) (checks : Option (List Bool)) (rows : List (List Bool)) (i : ℕ) (before : List Bool) → AreLines (later_blocks ports checks i before rows)
+lines_later ports checks [] i before = tt
+lines_later ports checks (row ∷ rows) i before =
+    let block = row_block ports (i + 1) (check_of checks i) before (check_of checks (i + 1)) row in
+    let later = later_blocks ports checks (i + 1) row rows in
+    let next : AreLines (edge_block i ++ block) = lines_append (edge_block i) block (lines_edge i) (lines_row ports (i + 1) (check_of checks i) (check_of checks (i + 1)) before row) in
+    lines_append (edge_block i ++ block) later next (lines_later ports checks rows (i + 1) row)
 
-lines_blocks : (ports : List PortLabel) (rows : List (List Bool)) → AreLines (blocks ports None rows)
-lines_blocks ports [] = tt
-lines_blocks ports (row ∷ rows) = lines_append (first_block ports None row) (later_blocks ports None 0 row rows) (lines_first ports row) (lines_later ports rows 0 row)
+lines_blocks : (ports : List PortLabel) (checks : Option (List Bool)) (rows : List (List Bool)) → AreLines (blocks ports checks rows)
+lines_blocks ports checks [] = tt
+lines_blocks ports checks (row ∷ rows) =
+    lines_append (first_block ports (check_of checks 0) row) (later_blocks ports checks 0 row rows) (lines_first ports (check_of checks 0) row) (lines_later ports checks rows 0 row)
 
-pub lines_waveform : (labels : Labels) (rows : List (List Bool)) → AreWords labels → AreLines (header labels false ++ blocks labels.ports None rows)
-lines_waveform labels rows h = lines_append (header labels false) (blocks labels.ports None rows) (lines_header labels h) (lines_blocks labels.ports rows)
+pub lines_waveform : (labels : Labels) (checks : Option (List Bool)) (rows : List (List Bool)) → AreWords labels → AreLines (header labels (is_some checks) ++ blocks labels.ports checks rows)
+lines_waveform labels checks rows h =
+    lines_append (header labels (is_some checks)) (blocks labels.ports checks rows) (lines_header labels (is_some checks) h) (lines_blocks labels.ports checks rows)
 
 -- the pieces of the text
 unset : (b : Bool) → not b ≡ true → b ≡ false

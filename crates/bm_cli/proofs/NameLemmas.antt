@@ -10,7 +10,7 @@ use Rattle.vlog_tree.specs.declared.design.Module.{Module}
 use Rattle.vlog_tree.specs.declared.item.Dir.TheVariants.{Input, Output}
 use Rattle.vlog_tree.specs.declared.item.Item.{Item}
 use Rattle.vlog_words.specs.Words.{IsWord}
-use Rattle.bm_cli.specs.FirstForm.{Text, IsFirstForm, are_declared, are_distinct, are_free, declared, input_name, inputs, is_among, outputs, without}
+use Rattle.bm_cli.specs.FirstForm.{Text, IsFirstForm, are_declared, are_distinct, are_free, declared, input_name, inputs, is_among, output_name, outputs, without}
 use Rattle.bm_cli.specs.Grammar.{IsWord as IsName, SpellsItem, SpellsItems, SpellsModule, SpellsPort, SpellsPorts}
 use Rattle.bm_cli.specs.Input.{SpellsNetlist, design_labels}
 use Rattle.bm_cli.specs.Labels.{labels_with, scalar_port}
@@ -43,17 +43,19 @@ back : {X : Type 0} (P : X → Type 0) (xs ys : List X) → All P (xs ++ ys) →
 back P [] ys h = h
 back P (x ∷ xs) ys h = back P xs ys (All-tail P x (xs ++ ys) h)
 
--- ---- the inputs among the items
+-- ---- the inputs and the outputs among the items
 
--- If the item is an input, its name is a word.
+-- If the item is an input or an output, its name is a word.
 abbrev HasWord : Item → Type 0
-HasWord item = IfSome (input_name item) IsWord
+HasWord item = IfSome (input_name item) IsWord × IfSome (output_name item) IsWord
 
 port_has_word : (ts : List Tok) (name : List ℕ) (item : Item) → All IsText ts → SpellsPort ts name item → HasWord item
 port_has_word ts name item texts (dir, word, Input, is, way, kind, same, also) =
     let two : All IsText (dir ∷ word ∷ []) = subst (All IsText) is texts in
-    subst HasWord (sym also) (name_is_word word kind (All-head IsText word [] (All-tail IsText dir (word ∷ []) two)))
-port_has_word ts name item texts (dir, word, Output, is, way, kind, same, also) = subst HasWord (sym also) tt
+    subst HasWord (sym also) (name_is_word word kind (All-head IsText word [] (All-tail IsText dir (word ∷ []) two)), tt)
+port_has_word ts name item texts (dir, word, Output, is, way, kind, same, also) =
+    let two : All IsText (dir ∷ word ∷ []) = subst (All IsText) is texts in
+    subst HasWord (sym also) (tt, name_is_word word kind (All-head IsText word [] (All-tail IsText dir (word ∷ []) two)))
 
 ports_have_words : (ts : List Tok) (names : List (List ℕ)) (items : List Item) → All IsText ts → SpellsPorts ts names items → All HasWord items
 ports_have_words ts (name ∷ []) (item ∷ []) texts s = All-cons HasWord item [] (port_has_word ts name item texts s) (All-nil HasWord)
@@ -66,13 +68,13 @@ ports_have_words ts (name ∷ []) [] texts s = absurd s
 ports_have_words ts (name ∷ []) (item ∷ next ∷ items) texts s = absurd s
 ports_have_words ts (name ∷ next ∷ names) [] texts s = absurd s
 
--- The items of the body are no inputs.
+-- The items of the body are no inputs and no outputs.
 item_has_word : (ts : List Tok) (item : Item) → SpellsItem ts item → HasWord item
-item_has_word ts item (inl (word, name, semi, is, h1, h2, h3, same)) = subst HasWord (sym same) tt
-item_has_word ts item (inr (inl (word, name, semi, is, h1, h2, h3, same))) = subst HasWord (sym same) tt
-item_has_word ts item (inr (inr (inl (word, opening, out, comma, a, other, b, closing, semi, is, h1, h2, h3, h4, h5, h6, h7, h8, h9, same)))) = subst HasWord (sym same) tt
-item_has_word ts item (inr (inr (inr (inl (word, opening, out, comma, a, closing, semi, is, h1, h2, h3, h4, h5, h6, h7, same))))) = subst HasWord (sym same) tt
-item_has_word ts item (inr (inr (inr (inr (word, at, opening, edge, clock, closing, target, arrow, source, semi, is, h1, h2, h3, h4, h5, h6, h7, h8, h9, h10, same))))) = subst HasWord (sym same) tt
+item_has_word ts item (inl (word, name, semi, is, h1, h2, h3, same)) = subst HasWord (sym same) (tt, tt)
+item_has_word ts item (inr (inl (word, name, semi, is, h1, h2, h3, same))) = subst HasWord (sym same) (tt, tt)
+item_has_word ts item (inr (inr (inl (word, opening, out, comma, a, other, b, closing, semi, is, h1, h2, h3, h4, h5, h6, h7, h8, h9, same)))) = subst HasWord (sym same) (tt, tt)
+item_has_word ts item (inr (inr (inr (inl (word, opening, out, comma, a, closing, semi, is, h1, h2, h3, h4, h5, h6, h7, same))))) = subst HasWord (sym same) (tt, tt)
+item_has_word ts item (inr (inr (inr (inr (word, at, opening, edge, clock, closing, target, arrow, source, semi, is, h1, h2, h3, h4, h5, h6, h7, h8, h9, h10, same))))) = subst HasWord (sym same) (tt, tt)
 
 items_have_words : (ts : List Tok) (items : List Item) → SpellsItems ts items → All HasWord items
 items_have_words ts [] s = All-nil HasWord
@@ -84,7 +86,11 @@ word_first None names word words = words
 
 inputs_are_words : (items : List Item) → All HasWord items → All IsWord (inputs items)
 inputs_are_words [] h = All-nil IsWord
-inputs_are_words (item ∷ items) h = word_first (input_name item) (inputs items) (All-head HasWord item items h) (inputs_are_words items (All-tail HasWord item items h))
+inputs_are_words (item ∷ items) h = word_first (input_name item) (inputs items) (All-head HasWord item items h).0 (inputs_are_words items (All-tail HasWord item items h))
+
+outputs_are_words : (items : List Item) → All HasWord items → All IsWord (outputs items)
+outputs_are_words [] h = All-nil IsWord
+outputs_are_words (item ∷ items) h = word_first (output_name item) (outputs items) (All-head HasWord item items h).1 (outputs_are_words items (All-tail HasWord item items h))
 
 -- ---- a module
 
@@ -92,6 +98,7 @@ inputs_are_words (item ∷ items) h = word_first (input_name item) (inputs items
 record HasWords (found : Module) : Type 0 where
   name : IsWord found.name
   inputs : All IsWord (inputs found.items)
+  outputs : All IsWord (outputs found.items)
 
 module_has_words : (ts : List Tok) (found : Module) → All IsText ts → SpellsModule ts found → HasWords found
 module_has_words ts found texts (word, name, opening, closing, semi, last, header, body, declared, items, is, h1, h2, h3, ports, h4, h5, spelled, h6, at, named, made) =
@@ -104,6 +111,7 @@ module_has_words ts found texts (word, name, opening, closing, semi, last, heade
     record {
       name = subst IsWord (sym named) (name_is_word name h2 (All-head IsText name rest later));
       inputs = inputs_are_words found.items (subst (All HasWord) (sym made) both);
+      outputs = outputs_are_words found.items (subst (All HasWord) (sym made) both);
     }
 
 -- ---- the labels
@@ -123,6 +131,11 @@ clock_is_input clock check items h =
     let input : Bool = is_among (inputs items) clock in
     (and_parts names input (and_parts (names && input) (is_among (outputs items) check) h).0).1
 
+check_is_output : (clock check : Text) (items : List Item) → are_declared clock check items ≡ true → is_among (outputs items) check ≡ true
+check_is_output clock check items h =
+    let names : Bool = are_free (declared items) && are_distinct (declared items) in
+    (and_parts (names && is_among (inputs items) clock) (is_among (outputs items) check) h).1
+
 words_of : (names : TopNames) (design : Design) (found : Module) → design.modules ≡ found ∷ [] → HasWords found → IsFirstForm names design → AreWords (design_labels names design)
 words_of names design found only words form =
     let same : found ∷ [] ≡ form.top ∷ [] = sym only ∙ form.only in
@@ -133,6 +146,7 @@ words_of names design found only words form =
     let labels : AreWords (labels_with names ports) = (
       subst IsWord form.name.same top.name,
       among_is_word (inputs form.top.items) names.clock (clock_is_input names.clock names.check form.top.items form.items.declared) top.inputs,
+      among_is_word (outputs form.top.items) names.check (check_is_output names.clock names.check form.top.items form.items.declared) top.outputs,
       All-map (λ port. IsWord port.name) scalar_port ports words,
     ) in
     subst (λ modules. AreWords (labels_with names (without names.clock (inputs (items_of modules))))) (sym form.only) labels

@@ -1,5 +1,5 @@
 -- What a shelf tells of a file is what was read of it.
-use Rattle.std.proofs.Common.{◌≡◌, ◌≤◌, ◌<◌, ℕ, List, Option, Some, None, length, refl, subst, sym, Result, Err}
+use Rattle.std.proofs.Common.{◌≡◌, ◌≤◌, ℕ, List, Option, Some, None, length, refl, subst, sym}
 use Rattle.std.specs.Option.{IfSome}
 use Rattle.std.specs.Prelude.{Vec}
 use Rattle.std.specs.declared.alloc.Global.{Global}
@@ -8,15 +8,14 @@ use Rattle.trace_rows.specs.declared.labels.Labels.{Labels}
 use Rattle.vlog_tree.specs.declared.design.Design.{Design}
 use Rattle.bm_cli.specs.Files.{IsWithin}
 use Rattle.bm_cli.specs.Input.{IsNetlist, IsNoNetlist, IsRead, SpellsNetlist}
-use Rattle.bm_cli.specs.Minimise.{ReadsNetlist}
+use Rattle.bm_cli.specs.Reading.{ReadsNetlist}
 use Rattle.bm_cli.specs.TopNames.{TopNames}
 use Rattle.bm_cli.specs.declared.netlist.circuit.Circuit.{Circuit}
 use Rattle.bm_cli.specs.declared.answer.Refusal.TheVariants.{NetlistForm}
-use Rattle.bm_cli.specs.declared.answer.Stop.{Stop}
 use Rattle.bm_cli.specs.declared.answer.Stop.TheVariants.{Refused}
 use Rattle.bm_cli.specs.declared.form.FormFault.{FormFault}
 use Rattle.bm_cli.specs.declared.form.FormFault.TheVariants.{Form, Memory}
-use Rattle.bm_cli.specs.Minimise.{stop_of}
+use Rattle.bm_cli.specs.Reading.{stop_of}
 
 -- the bytes that were found are the file's, and they are no more than the limit
 found_within : (limit : ℕ) (file : List ℕ) (found : Option (Vec ℕ Global)) (bytes : Vec ℕ Global)

@@ -1,5 +1,5 @@
 -- The signals of a module of the first form.
-use Rattle.std.proofs.Common.{◌≡◌, ℕ, ◌<◌, List, [], ◌∷◌, ◌++◌, Bool, true, false, not, ◌&&◌, IsTrue, Option, Some, None, slice_get, refl, ap, ◌∙◌, sym, subst, ◌⊎◌, inl, inr}
+use Rattle.std.proofs.Common.{◌≡◌, List, true, false, not, ◌&&◌, Some, None, ◌⊎◌, inl, inr}
 use Rattle.std.specs.List.{list_all}
 use Rattle.std.specs.Str.{bytes_eq}
 use Rattle.std.proofs.lemmas.Bool.{false≢true, and_parts}
@@ -8,7 +8,7 @@ use Rattle.vlog_tree.specs.declared.item.Dir.TheVariants.{Input, Output}
 use Rattle.vlog_tree.specs.declared.item.Item.{Item}
 use Rattle.vlog_tree.specs.declared.item.Item.TheVariants.{Decl}
 use Rattle.vlog_tree.specs.declared.item.NetKind.TheVariants.{Plain, Wire, Reg}
-use Rattle.bm_cli.specs.FirstForm.{AreFirstForm, Text, are_all, are_among, are_distinct, are_driven, are_free, are_other, are_same, are_taken, are_written, declared, declared_name, driven, edges, input_name, inputs, is_among, is_plain_item, net_name, nets, output_name, outputs, register_name, registers, sources, taken, without, written}
+use Rattle.bm_cli.specs.FirstForm.{AreFirstForm, Text, are_all, are_among, are_distinct, are_driven, are_free, are_other, are_same, declared, declared_name, driven, edges, input_name, inputs, is_among, is_plain_item, net_name, nets, output_name, outputs, register_name, registers, sources, taken, without, written}
 use Rattle.bm_cli.specs.TopNames.{TopNames}
 use Rattle.bm_cli.specs.Wired.{signals}
 use Rattle.bm_cli.proofs.AmongLemmas.{Named, all_among, among_all, among_left, among_right, among_without, by_name, each_other, each_passes, named_by}

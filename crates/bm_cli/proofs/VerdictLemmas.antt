@@ -1,136 +1,219 @@
--- From what a command came to, and from why, to its status.
-use Rattle.std.proofs.Common.{◌≡◌, ◌≢◌, ◌⊎◌, inl, inr, ⊎_elim, ℕ, List, ◌++◌, Bool, true, false, Option, Some, None, Result, Ok, Err, refl, sym, ap, ◌∙◌, subst, arith}
-use Rattle.std.specs.Option.{IfSome, option_map}
+-- From why a command came to what it did to its clauses on statuses.
+use Rattle.std.proofs.Common.{◌≡◌, ◌≢◌, ◌⊎◌, inl, inr, ⊎_elim, ℕ, List, Option, Some, None, Ok, Err, refl, sym, ◌∙◌, subst}
+use Rattle.std.specs.Option.{IfSome}
 use Rattle.std.specs.Result.{IfOk, OnErr}
-use Rattle.std.proofs.lemmas.Bool.{false≢true}
-use Rattle.bm_base.specs.Counts.{FaultCounts, Rose, count_of}
-use Rattle.bm_base.specs.Held.{Held, bytes_under, holding}
+use Rattle.bm_base.specs.Counts.{Rose}
+use Rattle.bm_base.specs.Held.{Held}
 use Rattle.bm_base.specs.declared.status.Status.{Status}
 use Rattle.bm_base.specs.declared.status.Status.TheVariants as status
-use Rattle.vlog_tree.specs.declared.design.Design.{Design}
-use Rattle.vlog_tree.specs.Run.{Violates}
-use Rattle.bm_cli.specs.Answer.{line_of, refusal_status, status_of, summary_line}
-use Rattle.bm_cli.specs.Command.{AskFor, CommandReason, FailsPrinting, FailsReading, FailsReadingOf, FailsWriting, HoldsAsked, IsDone, LeavesShelf, MayHoldPart}
-use Rattle.bm_cli.specs.Input.{IsNetlist, IsNoWaveform, IsWaveform, SpellsRows, design_labels}
-use Rattle.bm_cli.specs.Means.{machine_of}
-use Rattle.bm_cli.specs.Minimise.{IsOutText}
-use Rattle.bm_cli.specs.Printed.{Prints, PrintsForStatus, PrintsOutcome}
-use Rattle.bm_cli.specs.Reason.{CallCounts, Reason, RefusalReason, WriteRose}
-use Rattle.bm_cli.specs.Verdict.{HasInput, HasNetlist, HasNoNetlist, HasNoViolation, HasNoWaveform, HasViolation, HasWaveform}
-use Rattle.bm_cli.specs.Words.{AskNothing, Asks, Request}
+use Rattle.bm_cli.specs.Answer.{refusal_line, refusal_status, success_line}
+use Rattle.bm_cli.specs.Command.{AskFor, CommandReason, FailsPrinting, FailsReading, FailsReadingOf, FailsWriting, GainsLine, Holds, HoldsAsked, IsDone, LeavesShelf, MayHoldPart, SaysNo, SaysYes}
+use Rattle.bm_cli.specs.Printed.{PrintsOutcome}
+use Rattle.bm_cli.specs.Reason.{CallCounts, Reason, WriteRose}
+use Rattle.bm_cli.specs.Verdict.{HasAccepted, HasCounted, HasCut, HasNoNetlist, HasNoViolation, HasNoWaveform, HasNotFirst, HasRejected, HasViolation}
+use Rattle.bm_cli.specs.Words.{AskNothing, Asks, Command, Inputs, Request, check, inputs_of, minimise}
 use Rattle.bm_cli.specs.Yields.{Ends, Printed, Yields}
-use Rattle.bm_cli.specs.declared.answer.Answer.TheVariants.{Minimised, Refused as Refusing}
+use Rattle.bm_cli.specs.declared.answer.Accepted.{Accepted}
 use Rattle.bm_cli.specs.declared.answer.Refusal.{Refusal}
-use Rattle.bm_cli.specs.declared.answer.Refusal.TheVariants.{NoViolation, Words, NetlistForm, WaveformForm, ReadFault}
-use Rattle.bm_cli.specs.declared.answer.Stop.{Stop}
+use Rattle.bm_cli.specs.declared.answer.Refusal.TheVariants.{NoViolation, NotFirstAtLast, Cut, Words, NetlistForm, WaveformForm, ReadFault}
 use Rattle.bm_cli.specs.declared.answer.Stop.TheVariants.{Refused, WriteFault, Memory}
-use Rattle.bm_cli.specs.declared.answer.Summary.{Summary}
-use Rattle.bm_cli.proofs.DesignLaws.{one_spelled}
-use Rattle.bm_cli.proofs.NameLemmas.{labels_are_scalars, labels_are_words}
-use Rattle.bm_cli.proofs.TopLemmas.{IsPrinted, done_leaves, nothing_printed, refusal_leaves}
-use Rattle.bm_cli.proofs.WaveformLemmas.{one_trace}
-use Rattle.bm_cli.proofs.WordLemmas.{one_request}
+use Rattle.bm_cli.specs.declared.answer.Success.{Success}
+use Rattle.bm_cli.specs.declared.answer.Success.TheVariants as success
+use Rattle.bm_cli.proofs.StageLemmas.{Stage, either_fault, no_netlist, no_rows, not_both, read_yields, stage}
+use Rattle.bm_cli.proofs.StatusLemmas.{Outcome, SaidNo, no_found, other_status, refusal_found, refusal_printed, success_found, success_printed}
+use Rattle.bm_cli.proofs.TopLemmas.{done_leaves, refusal_leaves}
+use Rattle.bm_cli.proofs.WordLemmas.{one_command}
 
-abbrev pub Outcome : Type 0
-Outcome = Result Summary Stop
+module _ (words : List (List ℕ)) (held : Option Held) (counts : CallCounts) (outcome : Outcome) (s : Status) (printing : Type 0)
+    (reason : CommandReason words held counts outcome) (ends : Ends outcome s printing) where
+  -- the reason for what the words ask for
+  reason_for : (command : Command) → Asks words command → Reason command held counts outcome
+  reason_for command asks = ⊎_elim
+      (λ nothing. absurd (nothing.1 command asks))
+      (λ asked. subst (λ c. Reason c held counts outcome) (one_command words asked.0 command asked.1.form asks.form) asked.2)
+      reason
 
--- ---- A status tells what the command came to.
+  pub told_for : (command : Command) (told : Held) → Asks words command → held ≡ Some told → Reason command (Some told) counts outcome
+  told_for command told asks is = subst (λ h. Reason command h counts outcome) is (reason_for command asks)
 
--- the refusal with this status
-abbrev refusal_with : Status → Refusal
-refusal_with status.No = NoViolation
-refusal_with status.Words = Words
-refusal_with status.Netlist = NetlistForm
-refusal_with status.Waveform = WaveformForm
-refusal_with other = ReadFault
+  pub stage_for : (command : Command) (told : Held) → Asks words command → held ≡ Some told → Stage (inputs_of command) told counts outcome
+  stage_for command told asks is = stage command told counts outcome (told_for command told asks is)
 
-abbrev is_refusal : Status → Bool
-is_refusal status.No = true
-is_refusal status.Words = true
-is_refusal status.Netlist = true
-is_refusal status.Waveform = true
-is_refusal status.ReadFault = true
-is_refusal other = false
+  -- the reason of a refusal but that of the words
+  asked_for : (outcome' : Outcome) → outcome ≡ outcome' → (outcome' ≢ Err (Refused Words)) → AskFor words (λ command. Reason command held counts outcome')
+  asked_for outcome' is other = ⊎_elim (λ nothing. absurd (other (sym is ∙ nothing.0))) (λ asked. (asked.0, asked.1, subst (Reason asked.0 held counts) is asked.2)) reason
 
-its_own : (refusal : Refusal) → refusal_with (refusal_status refusal) ≡ refusal
-its_own NoViolation = refl
-its_own Words = refl
-its_own NetlistForm = refl
-its_own WaveformForm = refl
-its_own ReadFault = refl
+  pub words_ask_nothing : s ≡ status.Words → AskNothing words
+  words_ask_nothing is = ⊎_elim (λ nothing. nothing.1)
+      (λ asked. absurd (no_words asked.0 (subst (Reason asked.0 held counts) (refusal_found Words refl outcome s printing ends is) asked.2))) reason
+    where
+      no_words : (command : Command) → Reason command held counts (Err (Refused Words)) → ⊥
+      no_words (minimise request) none = none
+      no_words (check inputs) none = none
 
-refuses : (refusal : Refusal) → is_refusal (refusal_status refusal) ≡ true
-refuses NoViolation = refl
-refuses Words = refl
-refuses NetlistForm = refl
-refuses WaveformForm = refl
-refuses ReadFault = refl
+  pub nothing_asked : AskNothing words → Printed status.Words s printing
+  nothing_asked none = ⊎_elim (λ nothing. subst (λ o. Ends o s printing) nothing.0 ends) (λ asked. absurd (none asked.0 asked.1)) reason
 
--- a status that no refusal has
-other_status : (s : Status) (refusal : Refusal) → is_refusal s ≡ false → s ≡ refusal_status refusal → ⊥
-other_status s refusal other is = false≢true (sym other ∙ ap is_refusal is ∙ refuses refusal)
+  pub netlist_refused : s ≡ status.Netlist → AskFor words (λ command. IfSome held (HasNoNetlist (inputs_of command)))
+  netlist_refused is =
+      let asked = asked_for (Err (Refused NetlistForm)) (refusal_found NetlistForm refl outcome s printing ends is) (λ same. cc) in
+      (asked.0, asked.1, cause asked.0 asked.2)
+    where
+      cause : (command : Command) → Reason command held counts (Err (Refused NetlistForm)) → IfSome held (HasNoNetlist (inputs_of command))
+      cause (minimise request) none = none
+      cause (check inputs) none = none
 
-same_refusal : (one other : Refusal) → refusal_status one ≡ refusal_status other → one ≡ other
-same_refusal one other is = sym (its_own one) ∙ ap refusal_with is ∙ its_own other
+  pub waveform_refused : s ≡ status.Waveform → AskFor words (λ command. IfSome held (HasNoWaveform (inputs_of command)))
+  waveform_refused is =
+      let asked = asked_for (Err (Refused WaveformForm)) (refusal_found WaveformForm refl outcome s printing ends is) (λ same. cc) in
+      (asked.0, asked.1, cause asked.0 asked.2)
+    where
+      cause : (command : Command) → Reason command held counts (Err (Refused WaveformForm)) → IfSome held (HasNoWaveform (inputs_of command))
+      cause (minimise request) none = none
+      cause (check inputs) none = none
 
-printed_as : (expected s : Status) (printing : Type 0) (refusal : Refusal) → Printed expected s printing → s ≡ refusal_status refusal → expected ≡ refusal_status refusal
-printed_as expected s printing refusal (inl is) same = sym is ∙ same
-printed_as expected s printing refusal (inr (inl (is, cause))) same = absurd (other_status status.WriteFault refusal refl (sym is ∙ same))
-printed_as expected s printing refusal (inr (inr is)) same = absurd (other_status status.Memory refusal refl (sym is ∙ same))
+  pub read_failed : s ≡ status.ReadFault → FailsReading words counts.reads counts.reads_now
+  read_failed is =
+      let asked = asked_for (Err (Refused ReadFault)) (refusal_found ReadFault refl outcome s printing ends is) (λ same. cc) in
+      (asked.0, asked.1, cause asked.0 asked.2)
+    where
+      cause : (command : Command) → Reason command held counts (Err (Refused ReadFault)) → FailsReadingOf (inputs_of command) counts.reads counts.reads_now
+      cause (minimise request) fault = either_fault request.inputs held counts fault
+      cause (check inputs) fault = either_fault inputs held counts fault
 
-pub refusal_found : (refusal : Refusal) (outcome : Outcome) (s : Status) (printing : Type 0) → Ends outcome s printing → s ≡ refusal_status refusal → outcome ≡ Err (Refused refusal)
-refusal_found refusal (Ok summary) s printing ends is = absurd (other_status status.Done refusal refl (printed_as status.Done s printing refusal ends is))
-refusal_found refusal (Err (Refused other)) s printing ends is = ap (λ r. Err (Refused r)) (same_refusal other refusal (printed_as (refusal_status other) s printing refusal ends is))
-refusal_found refusal (Err WriteFault) s printing ends is = absurd (other_status status.WriteFault refusal refl (sym ends ∙ is))
-refusal_found refusal (Err Memory) s printing ends is = absurd (other_status status.Memory refusal refl (sym ends ∙ is))
+  -- ---- `minimise`
 
--- ---- Why a refusal comes.
+  no_of_minimise : (request : Request) → SaidNo outcome → Reason (minimise request) held counts outcome → IfSome held (HasNoViolation request.inputs)
+  no_of_minimise request (inl is) why = subst (Reason (minimise request) held counts) is why
+  no_of_minimise request (inr (inl is)) why = absurd (subst (Reason (minimise request) held counts) is why)
+  no_of_minimise request (inr (inr (i, is))) why = absurd (subst (Reason (minimise request) held counts) is why)
 
--- A refusal but that of the words has its reason.
-asked_reason : (words : List (List ℕ)) (held : Option Held) (counts : CallCounts) (refusal : Refusal) → (refusal ≢ Words)
-    → CommandReason words held counts (Err (Refused refusal)) → AskFor words (λ request. RefusalReason request held counts refusal)
-asked_reason words held counts refusal other (inl nothing) = absurd (other cc)
-asked_reason words held counts refusal other (inr asked) = asked
+  pub no_violation : (request : Request) → Asks words (minimise request) → s ≡ status.No → IfSome held (HasNoViolation request.inputs)
+  no_violation request asks is = no_of_minimise request (no_found outcome s printing ends is) (reason_for (minimise request) asks)
 
-pub reason_of : (words : List (List ℕ)) (held : Option Held) (counts : CallCounts) (refusal : Refusal) (outcome : Outcome) (s : Status) (printing : Type 0) → (refusal ≢ Words)
-    → CommandReason words held counts outcome → Ends outcome s printing → s ≡ refusal_status refusal → AskFor words (λ request. RefusalReason request held counts refusal)
-reason_of words held counts refusal outcome s printing other reason ends is =
-    asked_reason words held counts refusal other (subst (CommandReason words held counts) (refusal_found refusal outcome s printing ends is) reason)
+  -- ---- `check`
 
-pub netlist_is_not_words : NetlistForm ≢ Words
-netlist_is_not_words is = cc
+  says_no_by : (inputs : Inputs) (told : Option Held) (taken taken_now : Option (List ℕ)) → SaidNo outcome → Reason (check inputs) told counts outcome
+      → ((refusal : Refusal) → outcome ≡ Err (Refused refusal) → GainsLine (refusal_line refusal) taken taken_now)
+      → IfSome told (λ held. SaysNo inputs held taken taken_now)
+  says_no_by inputs None taken taken_now said why prints = tt
+  says_no_by inputs (Some told) taken taken_now (inl is) why prints = absurd (subst (Reason (check inputs) (Some told) counts) is why)
+  says_no_by inputs (Some told) taken taken_now (inr (inl is)) why prints = inl (subst (Reason (check inputs) (Some told) counts) is why, prints NotFirstAtLast is)
+  says_no_by inputs (Some told) taken taken_now (inr (inr (i, is))) why prints = inr (i, subst (Reason (check inputs) (Some told) counts) is why, prints (Cut i) is)
 
-pub waveform_is_not_words : WaveformForm ≢ Words
-waveform_is_not_words is = cc
+  pub says_no : (inputs : Inputs) (taken taken_now : Option (List ℕ)) → PrintsOutcome outcome s taken taken_now → Asks words (check inputs) → s ≡ status.No
+      → IfSome held (λ held. SaysNo inputs held taken taken_now)
+  says_no inputs taken taken_now prints asks is =
+      says_no_by inputs held taken taken_now (no_found outcome s printing ends is) (reason_for (check inputs) asks)
+      (λ refusal came. refusal_printed outcome refusal s taken taken_now came is prints)
 
-read_fault_is_not_words : ReadFault ≢ Words
-read_fault_is_not_words is = cc
+  pub says_yes : (inputs : Inputs) (taken taken_now : Option (List ℕ)) → PrintsOutcome outcome s taken taken_now → Asks words (check inputs) → s ≡ status.Done
+      → IfSome held (λ held. SaysYes inputs held taken taken_now)
+  says_yes inputs taken taken_now prints asks is =
+      let found = success_found outcome s printing ends is in
+      made found.0 held (subst (Reason (check inputs) held counts) found.1 (reason_for (check inputs) asks)) (success_printed outcome found.0 s taken taken_now found.1 is prints)
+    where
+      made : (success : Success) (told : Option Held) → Reason (check inputs) told counts (Ok success) → GainsLine (success_line success) taken taken_now
+          → IfSome told (λ held. SaysYes inputs held taken taken_now)
+      made (success.Minimised summary) told why line = absurd why
+      made (success.Accepted accepted) None why line = tt
+      made (success.Accepted accepted) (Some told) why line = record { accepted = accepted; counted = why; prints = line }
 
-pub words_ask_nothing : (words : List (List ℕ)) (held : Option Held) (counts : CallCounts) (outcome : Outcome) (s : Status) (printing : Type 0)
-    → CommandReason words held counts outcome → Ends outcome s printing → s ≡ status.Words → AskNothing words
-words_ask_nothing words held counts outcome s printing reason ends is =
-    ⊎_elim (λ nothing. nothing.1) (λ asked. absurd asked.2) (subst (CommandReason words held counts) (refusal_found Words outcome s printing ends is) reason)
+  -- ---- Status 0 of `minimise`.
 
-pub nothing_asked : (words : List (List ℕ)) (held : Option Held) (counts : CallCounts) (outcome : Outcome) (s : Status) (printing : Type 0)
-    → CommandReason words held counts outcome → Ends outcome s printing → AskNothing words → Printed status.Words s printing
-nothing_asked words held counts outcome s printing (inl nothing) ends asks = subst (λ o. Ends o s printing) nothing.0 ends
-nothing_asked words held counts outcome s printing (inr asked) ends asks = absurd (asks asked.0 asked.1)
+  pub minimised : (request : Request) (new : Option Held) (taken taken_now : Option (List ℕ)) → IfOk outcome (λ made. HoldsAsked words made held new) → PrintsOutcome outcome s taken taken_now
+      → Asks words (minimise request) → s ≡ status.Done → IfSome held (λ held. IsDone request held new taken taken_now)
+  minimised request new taken taken_now written prints asks is =
+      let found = success_found outcome s printing ends is in
+      let holds : HoldsAsked words found.0 held new = subst (λ o. IfOk o (λ made. HoldsAsked words made held new)) found.1 written in
+      let same : holds.0 ≡ minimise request = one_command words holds.0 (minimise request) holds.1.form asks.form in
+      made found.0 held (subst (λ c. Holds c found.0 held new) same holds.2) (success_printed outcome found.0 s taken taken_now found.1 is prints)
+    where
+      made : (success : Success) (told : Option Held) → Holds (minimise request) success told new → GainsLine (success_line success) taken taken_now
+          → IfSome told (λ held. IsDone request held new taken taken_now)
+      made (success.Accepted accepted) told none line = absurd none
+      made (success.Minimised summary) None holds line = tt
+      made (success.Minimised summary) (Some told) (text, is, holds) line = record { text = text; summary = summary; made = is; holds = holds; prints = line }
 
-failed_reading : (words : List (List ℕ)) (held : Option Held) (counts : CallCounts) → AskFor words (λ request. RefusalReason request held counts ReadFault)
-    → FailsReading words counts.reads counts.reads_now
-failed_reading words held counts (request, asks, inl rose) = (request, asks, inl rose)
-failed_reading words held counts (request, asks, inr rose) = (request, asks, inr rose.0)
+-- ---- Where the statuses of each command come.
 
-pub read_fault : (words : List (List ℕ)) (held : Option Held) (counts : CallCounts) (outcome : Outcome) (s : Status) (printing : Type 0)
-    → CommandReason words held counts outcome → Ends outcome s printing → s ≡ status.ReadFault → FailsReading words counts.reads counts.reads_now
-read_fault words held counts outcome s printing reason ends is =
-    failed_reading words held counts (reason_of words held counts ReadFault outcome s printing read_fault_is_not_words reason ends is)
+-- the cause of a write fault may be another
+caused_or : (expected s : Status) (printing writing : Type 0) → Printed expected s printing → Printed expected s (printing ⊎ writing)
+caused_or expected s printing writing (inl is) = inl is
+caused_or expected s printing writing (inr (inl failed)) = inr (inl (failed.0, inl failed.1))
+caused_or expected s printing writing (inr (inr is)) = inr (inr is)
+
+pub no_violation_yields : (request : Request) (held : Held) (counts : CallCounts) (outcome : Outcome) (s : Status) (printing : Type 0)
+    → Reason (minimise request) (Some held) counts outcome → Ends outcome s printing → HasNoViolation request.inputs held
+    → Yields status.No s (FailsReadingOf request.inputs counts.reads counts.reads_now) printing
+no_violation_yields request held counts (Ok (success.Minimised summary)) s printing reason ends none = absurd (not_both request.inputs held reason none)
+no_violation_yields request held counts (Ok (success.Accepted accepted)) s printing reason ends none = absurd reason
+no_violation_yields request held counts (Err (Refused NoViolation)) s printing reason ends none = inr ends
+no_violation_yields request held counts (Err (Refused NotFirstAtLast)) s printing reason ends none = absurd reason
+no_violation_yields request held counts (Err (Refused (Cut i))) s printing reason ends none = absurd reason
+no_violation_yields request held counts (Err (Refused Words)) s printing reason ends none = absurd reason
+no_violation_yields request held counts (Err (Refused NetlistForm)) s printing reason ends none = absurd (no_netlist request.inputs held reason none)
+no_violation_yields request held counts (Err (Refused WaveformForm)) s printing reason ends none = absurd (no_rows request.inputs held reason none)
+no_violation_yields request held counts (Err (Refused ReadFault)) s printing reason ends none = read_yields status.No s _ printing (either_fault request.inputs (Some held) counts reason) ends
+no_violation_yields request held counts (Err WriteFault) s printing reason ends none = absurd (not_both request.inputs held reason.1 none)
+no_violation_yields request held counts (Err Memory) s printing reason ends none = inr (inr (inr ends))
+
+pub violation_yields : (request : Request) (held : Held) (counts : CallCounts) (outcome : Outcome) (s : Status) (printing : Type 0)
+    → Reason (minimise request) (Some held) counts outcome → Ends outcome s printing → HasViolation request.inputs held
+    → Yields status.Done s (FailsReadingOf request.inputs counts.reads counts.reads_now) (printing ⊎ WriteRose counts request.out)
+violation_yields request held counts (Ok (success.Minimised summary)) s printing reason ends some = inr (caused_or status.Done s printing (WriteRose counts request.out) ends)
+violation_yields request held counts (Ok (success.Accepted accepted)) s printing reason ends some = absurd reason
+violation_yields request held counts (Err (Refused NoViolation)) s printing reason ends some = absurd (not_both request.inputs held some reason)
+violation_yields request held counts (Err (Refused NotFirstAtLast)) s printing reason ends some = absurd reason
+violation_yields request held counts (Err (Refused (Cut i))) s printing reason ends some = absurd reason
+violation_yields request held counts (Err (Refused Words)) s printing reason ends some = absurd reason
+violation_yields request held counts (Err (Refused NetlistForm)) s printing reason ends some = absurd (no_netlist request.inputs held reason some)
+violation_yields request held counts (Err (Refused WaveformForm)) s printing reason ends some = absurd (no_rows request.inputs held reason some)
+violation_yields request held counts (Err (Refused ReadFault)) s printing reason ends some =
+    read_yields status.Done s _ (printing ⊎ WriteRose counts request.out) (either_fault request.inputs (Some held) counts reason) (caused_or status.ReadFault s printing (WriteRose counts request.out) ends)
+violation_yields request held counts (Err WriteFault) s printing reason ends some = inr (inr (inl (ends, inr reason.0)))
+violation_yields request held counts (Err Memory) s printing reason ends some = inr (inr (inr ends))
+
+accepted_is : (inputs : Inputs) (held : Held) (accepted : Accepted) → HasCounted inputs held accepted → HasAccepted inputs held
+accepted_is inputs held accepted (design, rows, netlist, waveform, holds) = (design, rows, netlist, waveform, holds.0)
+
+not_first_rejects : (inputs : Inputs) (held : Held) → HasNotFirst inputs held → HasRejected inputs held
+not_first_rejects inputs held (design, rows, netlist, waveform, none) = (design, rows, netlist, waveform, λ accepted. none accepted.first_at_last)
+
+cut_rejects : (inputs : Inputs) (held : Held) (i : ℕ) → HasCut inputs held i → HasRejected inputs held
+cut_rejects inputs held i (design, rows, netlist, waveform, least) = (design, rows, netlist, waveform, λ accepted. accepted.no_cut i least.within least.violates)
+
+pub accepted_yields : (inputs : Inputs) (held : Held) (counts : CallCounts) (outcome : Outcome) (s : Status) (printing : Type 0)
+    → Reason (check inputs) (Some held) counts outcome → Ends outcome s printing → HasAccepted inputs held
+    → Yields status.Done s (FailsReadingOf inputs counts.reads counts.reads_now) printing
+accepted_yields inputs held counts (Ok (success.Minimised summary)) s printing reason ends some = absurd reason
+accepted_yields inputs held counts (Ok (success.Accepted accepted)) s printing reason ends some = inr ends
+accepted_yields inputs held counts (Err (Refused NoViolation)) s printing reason ends some = absurd reason
+accepted_yields inputs held counts (Err (Refused NotFirstAtLast)) s printing reason ends some = absurd (not_both inputs held some (not_first_rejects inputs held reason))
+accepted_yields inputs held counts (Err (Refused (Cut i))) s printing reason ends some = absurd (not_both inputs held some (cut_rejects inputs held i reason))
+accepted_yields inputs held counts (Err (Refused Words)) s printing reason ends some = absurd reason
+accepted_yields inputs held counts (Err (Refused NetlistForm)) s printing reason ends some = absurd (no_netlist inputs held reason some)
+accepted_yields inputs held counts (Err (Refused WaveformForm)) s printing reason ends some = absurd (no_rows inputs held reason some)
+accepted_yields inputs held counts (Err (Refused ReadFault)) s printing reason ends some = read_yields status.Done s _ printing (either_fault inputs (Some held) counts reason) ends
+accepted_yields inputs held counts (Err WriteFault) s printing reason ends some = absurd reason
+accepted_yields inputs held counts (Err Memory) s printing reason ends some = inr (inr (inr ends))
+
+pub rejected_yields : (inputs : Inputs) (held : Held) (counts : CallCounts) (outcome : Outcome) (s : Status) (printing : Type 0)
+    → Reason (check inputs) (Some held) counts outcome → Ends outcome s printing → HasRejected inputs held
+    → Yields status.No s (FailsReadingOf inputs counts.reads counts.reads_now) printing
+rejected_yields inputs held counts (Ok (success.Minimised summary)) s printing reason ends none = absurd reason
+rejected_yields inputs held counts (Ok (success.Accepted accepted)) s printing reason ends none = absurd (not_both inputs held (accepted_is inputs held accepted reason) none)
+rejected_yields inputs held counts (Err (Refused NoViolation)) s printing reason ends none = absurd reason
+rejected_yields inputs held counts (Err (Refused NotFirstAtLast)) s printing reason ends none = inr ends
+rejected_yields inputs held counts (Err (Refused (Cut i))) s printing reason ends none = inr ends
+rejected_yields inputs held counts (Err (Refused Words)) s printing reason ends none = absurd reason
+rejected_yields inputs held counts (Err (Refused NetlistForm)) s printing reason ends none = absurd (no_netlist inputs held reason none)
+rejected_yields inputs held counts (Err (Refused WaveformForm)) s printing reason ends none = absurd (no_rows inputs held reason none)
+rejected_yields inputs held counts (Err (Refused ReadFault)) s printing reason ends none = read_yields status.No s _ printing (either_fault inputs (Some held) counts reason) ends
+rejected_yields inputs held counts (Err WriteFault) s printing reason ends none = absurd reason
+rejected_yields inputs held counts (Err Memory) s printing reason ends none = inr (inr (inr ends))
 
 -- ---- Faults of writing and of printing.
-
-write_caused : (words : List (List ℕ)) (held : Option Held) (counts : CallCounts) → CommandReason words held counts (Err WriteFault) → FailsWriting words counts.writes counts.writes_now
-write_caused words held counts (inl nothing) = absurd cc
-write_caused words held counts (inr (request, asks, reason)) = (request, asks, reason.0)
 
 print_caused : (expected s : Status) (printing : Type 0) → (expected ≢ status.WriteFault) → Printed expected s printing → s ≡ status.WriteFault → printing
 print_caused expected s printing other (inl is) same = absurd (other (sym is ∙ same))
@@ -143,16 +226,21 @@ refusal_is_no_fault refusal is = other_status status.WriteFault refusal refl (sy
 done_is_no_fault : status.Done ≢ status.WriteFault
 done_is_no_fault is = cc
 
-pub write_fault : (words : List (List ℕ)) (old new : Option Held) (counts : CallCounts) (faults faults_now : ℕ) (outcome : Outcome) (s : Status)
+writing_failed : (words : List (List ℕ)) (held : Option Held) (counts : CallCounts) → CommandReason words held counts (Err WriteFault) → FailsWriting words counts.writes counts.writes_now
+writing_failed words held counts (inl nothing) = absurd cc
+writing_failed words held counts (inr (minimise request, asks, reason)) = (minimise request, asks, reason.0)
+writing_failed words held counts (inr (check inputs, asks, reason)) = absurd reason
+
+pub write_failed : (words : List (List ℕ)) (old new : Option Held) (counts : CallCounts) (faults faults_now : ℕ) (outcome : Outcome) (s : Status)
     → CommandReason words old counts outcome → Ends outcome s (Rose faults faults_now)
-    → IfOk outcome (λ summary. HoldsAsked words summary old new) → ((refusal : Refusal) → outcome ≡ Err (Refused refusal) → new ≡ old)
+    → IfOk outcome (λ made. HoldsAsked words made old new) → ((refusal : Refusal) → outcome ≡ Err (Refused refusal) → new ≡ old)
     → s ≡ status.WriteFault → FailsPrinting words faults faults_now old new ⊎ FailsWriting words counts.writes counts.writes_now
-write_fault words old new counts faults faults_now (Ok summary) s reason ends written refused is =
-    inl (print_caused status.Done s (Rose faults faults_now) done_is_no_fault ends is, inr (summary, written))
-write_fault words old new counts faults faults_now (Err (Refused refusal)) s reason ends written refused is =
+write_failed words old new counts faults faults_now (Ok made) s reason ends written refused is =
+    inl (print_caused status.Done s (Rose faults faults_now) done_is_no_fault ends is, inr (made, written))
+write_failed words old new counts faults faults_now (Err (Refused refusal)) s reason ends written refused is =
     inl (print_caused (refusal_status refusal) s (Rose faults faults_now) (refusal_is_no_fault refusal) ends is, inl (refused refusal refl))
-write_fault words old new counts faults faults_now (Err WriteFault) s reason ends written refused is = inr (write_caused words old counts reason)
-write_fault words old new counts faults faults_now (Err Memory) s reason ends written refused is = absurd cc
+write_failed words old new counts faults faults_now (Err WriteFault) s reason ends written refused is = inr (writing_failed words old counts reason)
+write_failed words old new counts faults faults_now (Err Memory) s reason ends written refused is = absurd cc
 
 -- ---- What the shelf holds.
 
@@ -162,148 +250,9 @@ printed expected s printing (inr (inl failed)) = inr (inl failed.0)
 printed expected s printing (inr (inr is)) = inr (inr is)
 
 pub shelf_left : (words : List (List ℕ)) (old new : Option Held) (outcome : Outcome) (s : Status) (printing : Type 0) → Ends outcome s printing
-    → IfOk outcome (λ summary. HoldsAsked words summary old new) → OnErr outcome (MayHoldPart words old new) → ((refusal : Refusal) → outcome ≡ Err (Refused refusal) → new ≡ old)
+    → IfOk outcome (λ made. HoldsAsked words made old new) → OnErr outcome (MayHoldPart words old new) → ((refusal : Refusal) → outcome ≡ Err (Refused refusal) → new ≡ old)
     → LeavesShelf words s old new
-shelf_left words old new (Ok summary) s printing ends written part refused = done_leaves words summary s old new (printed status.Done s printing ends) (summary, written)
+shelf_left words old new (Ok made) s printing ends written part refused = done_leaves words s old new (printed status.Done s printing ends) (made, written)
 shelf_left words old new (Err (Refused refusal)) s printing ends written part refused = refusal_leaves words refusal s old new (printed (refusal_status refusal) s printing ends) (refused refusal refl)
 shelf_left words old new (Err WriteFault) s printing ends written part refused = subst (λ t. LeavesShelf words t old new) (sym ends) part
 shelf_left words old new (Err Memory) s printing ends written part refused = subst (λ t. LeavesShelf words t old new) (sym ends) part
-
--- ---- Where a status comes.
-
--- the reason for the request that the words ask for
-pub reason_for : (words : List (List ℕ)) (request : Request) (held : Option Held) (told : Held) (counts : CallCounts) (outcome : Outcome)
-    → Asks words request → held ≡ Some told → CommandReason words held counts outcome → Reason request (Some told) counts outcome
-reason_for words request held told counts outcome asks is (inl nothing) = absurd (nothing.1 request asks)
-reason_for words request held told counts outcome asks is (inr (other, asked, reason)) =
-    let same : other ≡ request = one_request words other request asked.form asks.form in
-    subst (λ h. Reason request h counts outcome) is (subst (λ r. Reason r held counts outcome) same reason)
-
-pub netlist_yields : (request : Request) (held : Held) (counts : CallCounts) (outcome : Outcome) (s : Status) (printing : Type 0)
-    → Reason request (Some held) counts outcome → Ends outcome s printing → HasNoNetlist request held
-    → Yields status.Netlist s (Rose (count_of counts.reads request.netlist) (count_of counts.reads_now request.netlist)) printing
-netlist_yields request held counts (Ok summary) s printing reason ends none = absurd (none reason.0 reason.2)
-netlist_yields request held counts (Err (Refused NoViolation)) s printing reason ends none = absurd (none reason.0 reason.2)
-netlist_yields request held counts (Err (Refused Words)) s printing reason ends none = absurd reason
-netlist_yields request held counts (Err (Refused NetlistForm)) s printing reason ends none = inr ends
-netlist_yields request held counts (Err (Refused WaveformForm)) s printing reason ends none = absurd (none reason.0 reason.1)
-netlist_yields request held counts (Err (Refused ReadFault)) s printing (inl rose) (inl is) none = inl (is, rose)
-netlist_yields request held counts (Err (Refused ReadFault)) s printing (inl rose) (inr other) none = inr (inr other)
-netlist_yields request held counts (Err (Refused ReadFault)) s printing (inr (rose, some)) ends none = absurd (none some.0 some.1)
-netlist_yields request held counts (Err WriteFault) s printing reason ends none = absurd (none reason.1.0 reason.1.2)
-netlist_yields request held counts (Err Memory) s printing reason ends none = inr (inr (inr ends))
-
--- NETLIST has one design.
-one_netlist : (request : Request) (held : Held) (one other : Design) → HasNetlist request held one → HasNetlist request held other → one ≡ other
-one_netlist request held one other first second = one_spelled (bytes_under held request.netlist) one other first.text.spelled second.text.spelled
-
--- Where STIM is no waveform for the design of NETLIST, it is none for another.
-no_rows : (request : Request) (held : Held) {P : Design → List (List Bool) → Type 0} → HasNoWaveform request held → HasInput request held P → ⊥
-no_rows request held (design, netlist, none) (other, rows, netlist', waveform, holds) =
-    none rows (subst (λ d. HasWaveform request held d rows) (one_netlist request held other design netlist' netlist) waveform)
-
-read_either : (request : Request) (counts : CallCounts) (held : Option Held) → RefusalReason request held counts ReadFault → FailsReadingOf request counts.reads counts.reads_now
-read_either request counts held (inl rose) = inl rose
-read_either request counts held (inr rose) = inr rose.0
-
--- a fault of reading, or of printing that it came
-read_yields : (expected s : Status) (reading printing : Type 0) → reading → Printed status.ReadFault s printing → Yields expected s reading printing
-read_yields expected s reading printing cause (inl is) = inl (is, cause)
-read_yields expected s reading printing cause (inr other) = inr (inr other)
-
-pub waveform_yields : (request : Request) (held : Held) (counts : CallCounts) (outcome : Outcome) (s : Status) (printing : Type 0)
-    → Reason request (Some held) counts outcome → Ends outcome s printing → HasNoWaveform request held
-    → Yields status.Waveform s (FailsReadingOf request counts.reads counts.reads_now) printing
-waveform_yields request held counts (Ok summary) s printing reason ends none = absurd (no_rows request held none reason)
-waveform_yields request held counts (Err (Refused NoViolation)) s printing reason ends none = absurd (no_rows request held none reason)
-waveform_yields request held counts (Err (Refused Words)) s printing reason ends none = absurd reason
-waveform_yields request held counts (Err (Refused NetlistForm)) s printing reason ends none = absurd (reason none.0 none.1)
-waveform_yields request held counts (Err (Refused WaveformForm)) s printing reason ends none = inr ends
-waveform_yields request held counts (Err (Refused ReadFault)) s printing reason ends none =
-    read_yields status.Waveform s (FailsReadingOf request counts.reads counts.reads_now) printing (read_either request counts (Some held) reason) ends
-waveform_yields request held counts (Err WriteFault) s printing reason ends none = absurd (no_rows request held none reason.1)
-waveform_yields request held counts (Err Memory) s printing reason ends none = inr (inr (inr ends))
-
--- ---- Violations.
-
--- A text has one list of rows under the labels of a design that it spells.
-one_rows : (request : Request) (held : Held) (design : Design) (rows others : List (List Bool)) → HasNetlist request held design
-    → HasWaveform request held design rows → HasWaveform request held design others → rows ≡ others
-one_rows request held design rows others netlist first second =
-    one_trace (design_labels request.names design) (labels_are_scalars request.names design) (labels_are_words request.names (bytes_under held request.netlist) design netlist.text)
-    (bytes_under held request.stimulus) (let short = first.short in omega arith) rows others first.text.some second.text.some first.text.widths second.text.widths first.text.text second.text.text
-
--- Not both: some cycle violates, and none does.
-not_both : (request : Request) (held : Held) → HasViolation request held → HasNoViolation request held → ⊥
-not_both request held (design, rows, netlist, waveform, violates) (other, others, netlist', waveform', none) =
-    let same : other ≡ design = one_netlist request held other design netlist' netlist in
-    let here : HasWaveform request held design others = subst (λ d. HasWaveform request held d others) same waveform' in
-    let free : Violates (machine_of request.names design) others → ⊥ = subst (λ d. Violates (machine_of request.names d) others → ⊥) same none in
-    free (subst (Violates (machine_of request.names design)) (one_rows request held design rows others netlist waveform here) violates)
-
-pub no_violation_yields : (request : Request) (held : Held) (counts : CallCounts) (outcome : Outcome) (s : Status) (printing : Type 0)
-    → Reason request (Some held) counts outcome → Ends outcome s printing → HasNoViolation request held
-    → Yields status.No s (FailsReadingOf request counts.reads counts.reads_now) printing
-no_violation_yields request held counts (Ok summary) s printing reason ends none = absurd (not_both request held reason none)
-no_violation_yields request held counts (Err (Refused NoViolation)) s printing reason ends none = inr ends
-no_violation_yields request held counts (Err (Refused Words)) s printing reason ends none = absurd reason
-no_violation_yields request held counts (Err (Refused NetlistForm)) s printing reason ends none = absurd (reason none.0 none.2)
-no_violation_yields request held counts (Err (Refused WaveformForm)) s printing reason ends none = absurd (no_rows request held reason none)
-no_violation_yields request held counts (Err (Refused ReadFault)) s printing reason ends none =
-    read_yields status.No s (FailsReadingOf request counts.reads counts.reads_now) printing (read_either request counts (Some held) reason) ends
-no_violation_yields request held counts (Err WriteFault) s printing reason ends none = absurd (not_both request held reason.1 none)
-no_violation_yields request held counts (Err Memory) s printing reason ends none = inr (inr (inr ends))
-
--- the cause of a write fault may be another
-caused_or : (expected s : Status) (printing writing : Type 0) → Printed expected s printing → Printed expected s (printing ⊎ writing)
-caused_or expected s printing writing (inl is) = inl is
-caused_or expected s printing writing (inr (inl failed)) = inr (inl (failed.0, inl failed.1))
-caused_or expected s printing writing (inr (inr is)) = inr (inr is)
-
-pub violation_yields : (request : Request) (held : Held) (counts : CallCounts) (outcome : Outcome) (s : Status) (printing : Type 0)
-    → Reason request (Some held) counts outcome → Ends outcome s printing → HasViolation request held
-    → Yields status.Done s (FailsReadingOf request counts.reads counts.reads_now) (printing ⊎ WriteRose counts request.out)
-violation_yields request held counts (Ok summary) s printing reason ends some = inr (caused_or status.Done s printing (WriteRose counts request.out) ends)
-violation_yields request held counts (Err (Refused NoViolation)) s printing reason ends some = absurd (not_both request held some reason)
-violation_yields request held counts (Err (Refused Words)) s printing reason ends some = absurd reason
-violation_yields request held counts (Err (Refused NetlistForm)) s printing reason ends some = absurd (reason some.0 some.2)
-violation_yields request held counts (Err (Refused WaveformForm)) s printing reason ends some = absurd (no_rows request held reason some)
-violation_yields request held counts (Err (Refused ReadFault)) s printing reason ends some =
-    read_yields status.Done s (FailsReadingOf request counts.reads counts.reads_now) (printing ⊎ WriteRose counts request.out) (read_either request counts (Some held) reason)
-    (caused_or status.ReadFault s printing (WriteRose counts request.out) ends)
-violation_yields request held counts (Err WriteFault) s printing reason ends some = inr (inr (inl (ends, inr reason.0)))
-violation_yields request held counts (Err Memory) s printing reason ends some = inr (inr (inr ends))
-
--- ---- Status 0.
-
-is_done : (request : Request) (old new : Option Held) (text : List ℕ) (summary : Summary) (taken taken_now : Option (List ℕ))
-    → IsOutText request old text summary → new ≡ option_map (holding request.out text) old → taken_now ≡ option_map (λ bytes. bytes ++ summary_line summary) taken
-    → IfSome old (λ held. IsDone request held new taken taken_now)
-is_done request None new text summary taken taken_now is holds prints = tt
-is_done request (Some held) new text summary taken taken_now is holds prints = record { text = text; summary = summary; made = is; holds = holds; prints = prints }
-
--- the answer's line was printed, where the status is 0
-line_printed : (summary : Summary) (s : Status) (taken taken_now : Option (List ℕ)) → s ≡ status.Done → Prints (Minimised summary) s taken taken_now
-    → taken_now ≡ option_map (λ bytes. bytes ++ summary_line summary) taken
-line_printed summary s taken taken_now is prints = (subst (λ t. Prints (Minimised summary) t taken taken_now) is prints).1
-
-pub done : (words : List (List ℕ)) (old new : Option Held) (outcome : Outcome) (s : Status) (printing : Type 0) (taken taken_now : Option (List ℕ))
-    → Ends outcome s printing → IfOk outcome (λ summary. HoldsAsked words summary old new) → PrintsOutcome outcome s taken taken_now → s ≡ status.Done
-    → AskFor words (λ request. IfSome old (λ held. IsDone request held new taken taken_now))
-done words old new (Ok summary) s printing taken taken_now ends (request, asks, (text, is, holds)) prints zero =
-    (request, asks, is_done request old new text summary taken taken_now is holds (line_printed summary s taken taken_now zero prints))
-done words old new (Err (Refused refusal)) s printing taken taken_now ends written prints zero =
-    absurd (⊎_elim (λ is. other_status status.Done refusal refl (sym zero ∙ is)) (⊎_elim (λ failed. done_is_no_fault (sym zero ∙ failed.0)) (λ is. cc)) ends)
-done words old new (Err WriteFault) s printing taken taken_now ends written prints zero = absurd (done_is_no_fault (sym zero ∙ ends))
-done words old new (Err Memory) s printing taken taken_now ends written prints zero = absurd cc
-
--- ---- What is printed.
-
-pub status_printed : (outcome : Outcome) (s : Status) (printing : Type 0) (taken taken_now : Option (List ℕ)) → Ends outcome s printing → PrintsOutcome outcome s taken taken_now
-    → PrintsForStatus s taken taken_now
-status_printed (Ok summary) s printing taken taken_now ends prints = (Minimised summary, prints)
-status_printed (Err (Refused refusal)) s printing taken taken_now ends prints = (Refusing refusal, prints)
-status_printed (Err WriteFault) s printing taken taken_now ends same =
-    (Refusing Words, subst (λ t. Prints (Refusing Words) t taken taken_now) (sym ends) (0, same ∙ nothing_printed taken (line_of (Refusing Words))))
-status_printed (Err Memory) s printing taken taken_now ends same =
-    (Refusing Words, subst (λ t. Prints (Refusing Words) t taken taken_now) (sym ends) (0, same ∙ nothing_printed taken (line_of (Refusing Words))))

@@ -1,24 +1,51 @@
--- A command line is its eleven words, and asks for one thing.
-use Rattle.std.proofs.Common.{◌≡◌, ℕ, List, [], ◌∷◌, length, slice_get, Some, arith, sym, ◌∙◌, codes}
-use Rattle.bm_cli.specs.Words.{Request, HasForm}
+-- A command line is its words, and asks for one thing.
+use Rattle.std.proofs.Common.{◌≡◌, ℕ, List, [], ◌∷◌, length, drop, slice_get, Some, arith, sym, ◌∙◌, codes}
+use Rattle.bm_cli.specs.Words.{Command, Inputs, Request, HasForm, check, minimise, options}
 
-pub eleven : (xs : List (List ℕ)) (b c d e f g h i j k : List ℕ) → length xs ≡ 11
-    → slice_get xs 1 ≡ Some b → slice_get xs 2 ≡ Some c → slice_get xs 3 ≡ Some d → slice_get xs 4 ≡ Some e
-    → slice_get xs 5 ≡ Some f → slice_get xs 6 ≡ Some g → slice_get xs 7 ≡ Some h → slice_get xs 8 ≡ Some i → slice_get xs 9 ≡ Some j
-    → slice_get xs 10 ≡ Some k → (a : List ℕ) × (xs ≡ a ∷ b ∷ c ∷ d ∷ e ∷ f ∷ g ∷ h ∷ i ∷ j ∷ k ∷ [])
-eleven (x0 ∷ x1 ∷ x2 ∷ x3 ∷ x4 ∷ x5 ∷ x6 ∷ x7 ∷ x8 ∷ x9 ∷ x10 ∷ []) b c d e f g h i j k n p1 p2 p3 p4 p5 p6 p7 p8 p9 p10 = (x0, cc)
-eleven (x0 ∷ x1 ∷ x2 ∷ x3 ∷ x4 ∷ x5 ∷ x6 ∷ x7 ∷ x8 ∷ x9 ∷ x10 ∷ x11 ∷ xs) b c d e f g h i j k n p1 p2 p3 p4 p5 p6 p7 p8 p9 p10 = absurd (omega arith)
-eleven _ b c d e f g h i j k n p1 p2 p3 p4 p5 p6 p7 p8 p9 p10 = absurd (omega arith)
+pub six_words : (xs : List (List ℕ)) (a b c d e f : List ℕ) → length xs ≡ 6
+    → slice_get xs 0 ≡ Some a → slice_get xs 1 ≡ Some b → slice_get xs 2 ≡ Some c
+    → slice_get xs 3 ≡ Some d → slice_get xs 4 ≡ Some e → slice_get xs 5 ≡ Some f → xs ≡ a ∷ b ∷ c ∷ d ∷ e ∷ f ∷ []
+six_words (x0 ∷ x1 ∷ x2 ∷ x3 ∷ x4 ∷ x5 ∷ []) a b c d e f n p0 p1 p2 p3 p4 p5 = cc
+six_words (x0 ∷ x1 ∷ x2 ∷ x3 ∷ x4 ∷ x5 ∷ x6 ∷ xs) a b c d e f n p0 p1 p2 p3 p4 p5 = absurd (omega arith)
+six_words _ a b c d e f n p0 p1 p2 p3 p4 p5 = absurd (omega arith)
 
-pub one_request : (words : List (List ℕ)) (r s : Request) → HasForm words r → HasForm words s → r ≡ s
-one_request words r s p q =
-    let same : p.0 ∷ codes "minimise" ∷ r.netlist ∷ r.stimulus ∷ r.out ∷ codes "--top" ∷ r.names.top ∷ codes "--clock" ∷ r.names.clock ∷ codes "--check" ∷ r.names.check ∷ []
-    ≡ q.0 ∷ codes "minimise" ∷ s.netlist ∷ s.stimulus ∷ s.out ∷ codes "--top" ∷ s.names.top ∷ codes "--clock" ∷ s.names.clock ∷ codes "--check" ∷ s.names.check ∷ []
-    = sym p.1 ∙ q.1 in
-    let netlist : r.netlist ≡ s.netlist = cc in
-    let stimulus : r.stimulus ≡ s.stimulus = cc in
+pub five_words : (xs rest : List (List ℕ)) (b c d e : List ℕ)
+    → slice_get xs 1 ≡ Some b → slice_get xs 2 ≡ Some c → slice_get xs 3 ≡ Some d → slice_get xs 4 ≡ Some e → drop 5 xs ≡ rest
+    → (a : List ℕ) × (xs ≡ a ∷ b ∷ c ∷ d ∷ e ∷ rest)
+five_words (x0 ∷ x1 ∷ x2 ∷ x3 ∷ x4 ∷ xs) rest b c d e p1 p2 p3 p4 p5 = (x0, cc)
+five_words (x0 ∷ x1 ∷ x2 ∷ x3 ∷ []) rest b c d e p1 p2 p3 p4 p5 = cc
+five_words (x0 ∷ x1 ∷ x2 ∷ []) rest b c d e p1 p2 p3 p4 p5 = cc
+five_words (x0 ∷ x1 ∷ []) rest b c d e p1 p2 p3 p4 p5 = cc
+five_words (x0 ∷ []) rest b c d e p1 p2 p3 p4 p5 = cc
+five_words [] rest b c d e p1 p2 p3 p4 p5 = cc
+
+pub no_command : (words : List (List ℕ)) → ((request : Request) → HasForm words (minimise request) → ⊥)
+    → ((inputs : Inputs) → HasForm words (check inputs) → ⊥) → (command : Command) → HasForm words command → ⊥
+no_command words p q (minimise request) form = p request form
+no_command words p q (check inputs) form = q inputs form
+
+one_inputs : (a b : Inputs) → a.netlist ≡ b.netlist → a.waveform ≡ b.waveform → options a.names ≡ options b.names → a ≡ b
+one_inputs a b netlist waveform same =
+    let top : a.names.top ≡ b.names.top = cc in
+    let clock : a.names.clock ≡ b.names.clock = cc in
+    let check : a.names.check ≡ b.names.check = cc in
+    λ i. record { netlist = netlist i; waveform = waveform i; names = record { top = top i; clock = clock i; check = check i } }
+
+pub one_command : (words : List (List ℕ)) (c d : Command) → HasForm words c → HasForm words d → c ≡ d
+one_command words (minimise r) (minimise s) p q =
+    let same : p.0 ∷ codes "minimise" ∷ r.inputs.netlist ∷ r.inputs.waveform ∷ r.out ∷ options r.inputs.names
+    ≡ q.0 ∷ codes "minimise" ∷ s.inputs.netlist ∷ s.inputs.waveform ∷ s.out ∷ options s.inputs.names = sym p.1 ∙ q.1 in
     let out : r.out ≡ s.out = cc in
-    let top : r.names.top ≡ s.names.top = cc in
-    let clock : r.names.clock ≡ s.names.clock = cc in
-    let check : r.names.check ≡ s.names.check = cc in
-    λ i. record { netlist = netlist i; stimulus = stimulus i; out = out i; names = record { top = top i; clock = clock i; check = check i } }
+    let inputs : r.inputs ≡ s.inputs = one_inputs r.inputs s.inputs (cc) (cc) (cc) in
+    λ i. minimise (record { inputs = inputs i; out = out i })
+one_command words (check a) (check b) p q =
+    let same : p.0 ∷ codes "check" ∷ a.netlist ∷ a.waveform ∷ options a.names
+    ≡ q.0 ∷ codes "check" ∷ b.netlist ∷ b.waveform ∷ options b.names = sym p.1 ∙ q.1 in
+    let inputs : a ≡ b = one_inputs a b (cc) (cc) (cc) in
+    λ i. check (inputs i)
+one_command words (minimise r) (check b) p q =
+    let same : p.0 ∷ codes "minimise" ∷ r.inputs.netlist ∷ r.inputs.waveform ∷ r.out ∷ options r.inputs.names
+    ≡ q.0 ∷ codes "check" ∷ b.netlist ∷ b.waveform ∷ options b.names = sym p.1 ∙ q.1 in cc
+one_command words (check a) (minimise s) p q =
+    let same : p.0 ∷ codes "check" ∷ a.netlist ∷ a.waveform ∷ options a.names
+    ≡ q.0 ∷ codes "minimise" ∷ s.inputs.netlist ∷ s.inputs.waveform ∷ s.out ∷ options s.inputs.names = sym p.1 ∙ q.1 in cc

@@ -2,21 +2,26 @@
 use Rattle.std.specs.Prelude.{ℕ, List, ◌++◌, codes, decimal}
 use Rattle.bm_base.specs.declared.status.Status.{Status}
 use Rattle.bm_base.specs.declared.status.Status.TheVariants as status
+use Rattle.bm_cli.specs.declared.answer.Accepted.{Accepted}
 use Rattle.bm_cli.specs.declared.answer.Summary.{Summary}
+use Rattle.bm_cli.specs.declared.answer.Success.{Success}
+use Rattle.bm_cli.specs.declared.answer.Success.TheVariants as success
 use Rattle.bm_cli.specs.declared.answer.Refusal.{Refusal}
-use Rattle.bm_cli.specs.declared.answer.Refusal.TheVariants.{NoViolation, Words, NetlistForm, WaveformForm, ReadFault}
+use Rattle.bm_cli.specs.declared.answer.Refusal.TheVariants.{NoViolation, NotFirstAtLast, Cut, Words, NetlistForm, WaveformForm, ReadFault}
 use Rattle.bm_cli.specs.declared.answer.Answer.{Answer}
-use Rattle.bm_cli.specs.declared.answer.Answer.TheVariants.{Minimised, Refused}
+use Rattle.bm_cli.specs.declared.answer.Answer.TheVariants.{Done, Refused}
 
 abbrev pub refusal_status : Refusal → Status
 refusal_status NoViolation = status.No
+refusal_status NotFirstAtLast = status.No
+refusal_status (Cut cycle) = status.No
 refusal_status Words = status.Words
 refusal_status NetlistForm = status.Netlist
 refusal_status WaveformForm = status.Waveform
 refusal_status ReadFault = status.ReadFault
 
 abbrev pub status_of : Answer → Status
-status_of (Minimised summary) = status.Done
+status_of (Done success) = status.Done
 status_of (Refused refusal) = refusal_status refusal
 
 abbrev pub summary_line : Summary → List ℕ
@@ -24,8 +29,17 @@ summary_line s = codes "minimised: cycles " ++ decimal s.cycles_before ++ codes 
     ++ codes ", events " ++ decimal s.events_before ++ codes " to " ++ decimal s.events
     ++ codes ", windows 0 certified, 0 open, x 0\n"
 
+abbrev pub accepted_line : Accepted → List ℕ
+accepted_line a = codes "yes: cycles " ++ decimal a.cycles ++ codes ", events " ++ decimal a.events ++ codes ", windows 0 certified, 0 open\n"
+
+abbrev pub success_line : Success → List ℕ
+success_line (success.Minimised summary) = summary_line summary
+success_line (success.Accepted accepted) = accepted_line accepted
+
 abbrev pub refusal_line : Refusal → List ℕ
 refusal_line NoViolation = codes "no violation\n"
+refusal_line NotFirstAtLast = codes "no: N1\n"
+refusal_line (Cut cycle) = codes "no: N2 cycle " ++ decimal cycle ++ codes "\n"
 refusal_line Words = codes "words refused\n"
 refusal_line NetlistForm = codes "netlist refused: form\n"
 refusal_line WaveformForm = codes "waveform refused: form\n"
@@ -33,5 +47,5 @@ refusal_line ReadFault = codes "read fault\n"
 
 -- the line, with its newline
 abbrev pub line_of : Answer → List ℕ
-line_of (Minimised summary) = summary_line summary
+line_of (Done success) = success_line success
 line_of (Refused refusal) = refusal_line refusal

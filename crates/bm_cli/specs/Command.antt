@@ -5,43 +5,60 @@ use Rattle.bm_base.specs.Counts.{FaultCounts, count_of, Rose}
 use Rattle.bm_base.specs.Held.{Held, holding}
 use Rattle.bm_base.specs.declared.status.Status.{Status}
 use Rattle.bm_base.specs.declared.status.Status.TheVariants.{Done, No, Words, Netlist, Waveform, ReadFault, WriteFault, Limit, Memory, Certificate}
-use Rattle.bm_cli.specs.declared.answer.Refusal.TheVariants.{Words as Nothing}
+use Rattle.bm_cli.specs.declared.answer.Accepted.{Accepted}
+use Rattle.bm_cli.specs.declared.answer.Refusal.TheVariants.{Words as Nothing, NotFirstAtLast, Cut}
 use Rattle.bm_cli.specs.declared.answer.Stop.{Stop}
 use Rattle.bm_cli.specs.declared.answer.Stop.TheVariants.{Refused}
+use Rattle.bm_cli.specs.declared.answer.Success.{Success}
+use Rattle.bm_cli.specs.declared.answer.Success.TheVariants as success
 use Rattle.bm_cli.specs.declared.answer.Summary.{Summary}
-use Rattle.bm_cli.specs.Answer.{summary_line}
+use Rattle.bm_cli.specs.Answer.{accepted_line, refusal_line, summary_line}
+use Rattle.bm_cli.specs.Output.{HoldsOut, HoldsPart}
 use Rattle.bm_cli.specs.Reason.{CallCounts, Reason}
-use Rattle.bm_cli.specs.Verdict.{HasMinimised}
-use Rattle.bm_cli.specs.Words.{AskNothing, Request, Asks}
-use Rattle.bm_cli.specs.Minimise.{HoldsOut, HoldsPart}
+use Rattle.bm_cli.specs.Verdict.{HasCounted, HasCut, HasMinimised, HasNotFirst}
+use Rattle.bm_cli.specs.Words.{AskNothing, Asks, Command, Inputs, Request, check, inputs_of, minimise}
 
 -- The words ask for something of which this holds.
-abbrev pub AskFor : List (List ℕ) → (Request → Type 0) → Type 0
-AskFor words P = (request : Request) × Asks words request × P request
+abbrev pub AskFor : List (List ℕ) → (Command → Type 0) → Type 0
+AskFor words P = (command : Command) × Asks words command × P command
 
--- The read count of NETLIST or of STIM has risen.
-abbrev pub FailsReadingOf : Request → FaultCounts → FaultCounts → Type 0
-FailsReadingOf request old new = Rose (count_of old request.netlist) (count_of new request.netlist) ⊎ Rose (count_of old request.stimulus) (count_of new request.stimulus)
+-- The read count of one of the two files has risen.
+abbrev pub FailsReadingOf : Inputs → FaultCounts → FaultCounts → Type 0
+FailsReadingOf inputs old new = Rose (count_of old inputs.netlist) (count_of new inputs.netlist) ⊎ Rose (count_of old inputs.waveform) (count_of new inputs.waveform)
 
 -- The same of the files that the words ask for.
 abbrev pub FailsReading : List (List ℕ) → FaultCounts → FaultCounts → Type 0
-FailsReading words old new = AskFor words (λ request. FailsReadingOf request old new)
+FailsReading words old new = AskFor words (λ command. FailsReadingOf (inputs_of command) old new)
 
--- The write count of the file that the command writes has risen.
+-- The command writes a file, whose write count has risen.
+abbrev pub FailsWritingOf : Command → FaultCounts → FaultCounts → Type 0
+FailsWritingOf (minimise request) old new = Rose (count_of old request.out) (count_of new request.out)
+FailsWritingOf (check inputs) old new = ⊥
+
 abbrev pub FailsWriting : List (List ℕ) → FaultCounts → FaultCounts → Type 0
-FailsWriting words old new = AskFor words (λ request. Rose (count_of old request.out) (count_of new request.out))
+FailsWriting words old new = AskFor words (λ command. FailsWritingOf command old new)
 
--- The output holds its text, and nothing else has changed.
-abbrev pub HoldsAsked : List (List ℕ) → Summary → Option Held → Option Held → Type 0
-HoldsAsked words summary old new = AskFor words (λ request. HoldsOut request summary old new)
+-- What a command that succeeds leaves: `minimise` the output with its text, and `check` all as it was.
+abbrev pub Holds : Command → Success → Option Held → Option Held → Type 0
+Holds (minimise request) (success.Minimised summary) old new = HoldsOut request summary old new
+Holds (minimise request) (success.Accepted accepted) old new = ⊥
+Holds (check inputs) made old new = new ≡ old
+
+-- The same for what the words ask for.
+abbrev pub HoldsAsked : List (List ℕ) → Success → Option Held → Option Held → Type 0
+HoldsAsked words made old new = AskFor words (λ command. Holds command made old new)
 
 -- The same for some numbers.
 abbrev pub HoldsSome : List (List ℕ) → Option Held → Option Held → Type 0
-HoldsSome words old new = (summary : Summary) × HoldsAsked words summary old new
+HoldsSome words old new = (made : Success) × HoldsAsked words made old new
 
--- All is as before, or the output holds a prefix of its text and nothing else has changed.
+-- All is as before, or the output of `minimise` holds a prefix of its text and nothing else has changed.
+abbrev pub HoldsPartOf : Command → Option Held → Option Held → Type 0
+HoldsPartOf (minimise request) old new = HoldsPart request old new
+HoldsPartOf (check inputs) old new = new ≡ old
+
 abbrev pub MayHoldPart : List (List ℕ) → Option Held → Option Held → Type 0
-MayHoldPart words old new = (new ≡ old) ⊎ AskFor words (λ request. HoldsPart request old new)
+MayHoldPart words old new = (new ≡ old) ⊎ AskFor words (λ command. HoldsPartOf command old new)
 
 -- The sink's count has risen, and the shelf is as it was or the output is whole.
 abbrev pub FailsPrinting : List (List ℕ) → ℕ → ℕ → Option Held → Option Held → Type 0
@@ -61,13 +78,29 @@ LeavesShelf words Limit old new = new ≡ old
 LeavesShelf words Certificate old new = new ≡ old
 
 -- Why the command came to this: the words ask for nothing, or for something for which it is the reason.
-abbrev pub CommandReason : List (List ℕ) → Option Held → CallCounts → Result Summary Stop → Type 0
-CommandReason words held counts outcome = ((outcome ≡ Err (Refused Nothing)) × AskNothing words) ⊎ AskFor words (λ request. Reason request held counts outcome)
+abbrev pub CommandReason : List (List ℕ) → Option Held → CallCounts → Result Success Stop → Type 0
+CommandReason words held counts outcome = ((outcome ≡ Err (Refused Nothing)) × AskNothing words) ⊎ AskFor words (λ command. Reason command held counts outcome)
 
--- The output holds its text, nothing else has changed, and the sink has the line with its numbers more.
+-- The sink has this line more.
+abbrev pub GainsLine : List ℕ → Option (List ℕ) → Option (List ℕ) → Type 0
+GainsLine line taken taken_now = taken_now ≡ option_map (λ bytes. bytes ++ line) taken
+
+-- `minimise` is done: the output holds its text, nothing else has changed, and the line with its numbers is printed.
 pub record IsDone (request : Request) (held : Held) (new : Option Held) (taken taken_now : Option (List ℕ)) : Type 0 where
   pub text : List ℕ
   pub summary : Summary
-  pub made : HasMinimised request held text summary
+  pub made : HasMinimised request.inputs held text summary
   pub holds : new ≡ Some (holding request.out text held)
-  pub prints : taken_now ≡ option_map (λ bytes. bytes ++ summary_line summary) taken
+  pub prints : GainsLine (summary_line summary) taken taken_now
+
+-- `check` says yes: the trace is accepted, and the line with its numbers is printed.
+pub record SaysYes (inputs : Inputs) (held : Held) (taken taken_now : Option (List ℕ)) : Type 0 where
+  pub accepted : Accepted
+  pub counted : HasCounted inputs held accepted
+  pub prints : GainsLine (accepted_line accepted) taken taken_now
+
+-- `check` says no, with the first reason: the trace does not violate first at its last cycle, or this is its first cycle that can go.
+abbrev pub SaysNo : Inputs → Held → Option (List ℕ) → Option (List ℕ) → Type 0
+SaysNo inputs held taken taken_now =
+    (HasNotFirst inputs held × GainsLine (refusal_line NotFirstAtLast) taken taken_now)
+    ⊎ ((i : ℕ) × HasCut inputs held i × GainsLine (refusal_line (Cut i)) taken taken_now)

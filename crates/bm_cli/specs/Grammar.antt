@@ -1,12 +1,11 @@
 -- The grammar of the first form: which tokens spell which tree, one definition for each production.
-use Rattle.std.specs.Prelude.{◌≡◌, ◌⊎◌, ℕ, List, [], ◌∷◌, ◌++◌, codes, Option, Some, None}
+use Rattle.std.specs.Prelude.{◌≡◌, ◌⊎◌, ℕ, List, [], ◌∷◌, ◌++◌, codes, Some, None}
 use Rattle.vlog_tree.specs.declared.design.Design.{Design}
 use Rattle.vlog_tree.specs.declared.design.Module.{Module}
 use Rattle.vlog_tree.specs.declared.expr.Expr.{Expr}
 use Rattle.vlog_tree.specs.declared.expr.Expr.TheVariants as expr
 use Rattle.vlog_tree.specs.declared.item.Dir.{Dir}
 use Rattle.vlog_tree.specs.declared.item.Dir.TheVariants.{Input, Output}
-use Rattle.vlog_tree.specs.declared.item.GateKind.{GateKind}
 use Rattle.vlog_tree.specs.declared.item.GateKind.TheVariants.{And, Not}
 use Rattle.vlog_tree.specs.declared.item.Item.{Item}
 use Rattle.vlog_tree.specs.declared.item.Item.TheVariants.{Decl, Gate, Always}
@@ -14,7 +13,6 @@ use Rattle.vlog_tree.specs.declared.item.NetKind.{NetKind}
 use Rattle.vlog_tree.specs.declared.item.NetKind.TheVariants.{Plain, Wire, Reg}
 use Rattle.vlog_tree.specs.declared.left.Left.{Left}
 use Rattle.vlog_tree.specs.declared.left.Left.TheVariants as left
-use Rattle.vlog_tree.specs.declared.stmt.Stmt.{Stmt}
 use Rattle.vlog_tree.specs.declared.stmt.Stmt.TheVariants.{Set}
 use Rattle.bm_cli.specs.Tokens.{Tok}
 use Rattle.bm_cli.specs.declared.netlist.token.TokenKind.TheVariants as kind

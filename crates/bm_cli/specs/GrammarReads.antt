@@ -1,5 +1,5 @@
 -- What each function of the grammar reads from a list of tokens, and what it leaves.
-use Rattle.std.specs.Prelude.{◌≡◌, ℕ, zero, suc, List, [], ◌∷◌, ◌++◌, codes, length, Option, Some, None, Result, Ok, Err, bytes_eq, if◌then◌else◌, Bool, true, false}
+use Rattle.std.specs.Prelude.{◌≡◌, ℕ, zero, suc, List, [], ◌∷◌, ◌++◌, codes, length, Option, Some, None, Result, Ok, Err, bytes_eq, if◌then◌else◌, Bool, false}
 use Rattle.vlog_tree.specs.declared.design.Design.{Design}
 use Rattle.vlog_tree.specs.declared.design.Module.{Module}
 use Rattle.vlog_tree.specs.declared.expr.Expr.{Expr}

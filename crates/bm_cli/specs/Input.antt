@@ -1,5 +1,5 @@
 -- The first forms of a netlist and a waveform, of bytes.
-use Rattle.std.specs.Prelude.{◌≡◌, ◌<◌, ◌≤◌, ℕ, List, Bool, All, None, length}
+use Rattle.std.specs.Prelude.{◌≡◌, ◌<◌, ◌≤◌, ℕ, List, Bool, Option, All, IfSome, length}
 use Rattle.trace_rows.specs.declared.labels.Labels.{Labels}
 use Rattle.vcd_writer.specs.Waveform.{vcd}
 use Rattle.vlog_tree.specs.declared.design.Design.{Design}
@@ -34,11 +34,13 @@ pub record IsRead (names : TopNames) (bytes : List ℕ) (circuit : Circuit) (lab
   pub labelled : labels ≡ design_labels names design
   pub words : AreWords labels
 
--- The bytes are the written waveform of these rows without checker bits.
+-- The bytes are the written waveform of these rows, without checker bits or with one for each row, of any value.
 pub record SpellsRows (labels : Labels) (bytes : List ℕ) (rows : List (List Bool)) : Type 0 where
   pub some : 0 < length rows
   pub widths : All (λ row. length row ≡ length labels.ports) rows
-  pub text : bytes ≡ vcd rows labels None
+  pub checks : Option (List Bool)
+  pub each : IfSome checks (λ bits. length bits ≡ length rows)
+  pub text : bytes ≡ vcd rows labels checks
 
 -- The bytes are a waveform of the first form, and these are its rows.
 pub record IsWaveform (labels : Labels) (bytes : List ℕ) (rows : List (List Bool)) : Type 0 where

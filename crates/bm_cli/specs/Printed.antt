@@ -5,10 +5,10 @@ use Rattle.bm_base.specs.declared.status.Status.{Status}
 use Rattle.bm_base.specs.declared.status.Status.TheVariants.{Done, No, Words, Netlist, Waveform, ReadFault, WriteFault, Limit, Memory, Certificate}
 use Rattle.bm_cli.specs.declared.answer.Answer.{Answer}
 use Rattle.bm_cli.specs.Answer.{line_of, status_of}
-use Rattle.bm_cli.specs.declared.answer.Answer.TheVariants.{Minimised, Refused}
+use Rattle.bm_cli.specs.declared.answer.Answer.TheVariants.{Done as Succeeded, Refused}
 use Rattle.bm_cli.specs.declared.answer.Stop.{Stop}
 use Rattle.bm_cli.specs.declared.answer.Stop.TheVariants as stop
-use Rattle.bm_cli.specs.declared.answer.Summary.{Summary}
+use Rattle.bm_cli.specs.declared.answer.Success.{Success}
 
 -- The sink has the answer's line more, and the status is the answer's.
 abbrev pub PrintsLine : Answer → Status → Option (List ℕ) → Option (List ℕ) → Type 0
@@ -32,8 +32,8 @@ Prints answer Limit old new = PrintsLine answer Limit old new
 Prints answer Certificate old new = PrintsLine answer Certificate old new
 
 -- the same by what the command came to: where it comes to no answer, nothing is printed
-abbrev pub PrintsOutcome : Result Summary Stop → Status → Option (List ℕ) → Option (List ℕ) → Type 0
-PrintsOutcome (Ok summary) status old new = Prints (Minimised summary) status old new
+abbrev pub PrintsOutcome : Result Success Stop → Status → Option (List ℕ) → Option (List ℕ) → Type 0
+PrintsOutcome (Ok success) status old new = Prints (Succeeded success) status old new
 PrintsOutcome (Err (stop.Refused refusal)) status old new = Prints (Refused refusal) status old new
 PrintsOutcome (Err stop.WriteFault) status old new = new ≡ old
 PrintsOutcome (Err stop.Memory) status old new = new ≡ old

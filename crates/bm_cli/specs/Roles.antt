@@ -1,5 +1,5 @@
 -- The names of items by their roles.
-use Rattle.std.specs.Prelude.{ℕ, List, Option, map}
+use Rattle.std.specs.Prelude.{List, Option, map}
 use Rattle.std.specs.Borrow.{Bor}
 use Rattle.std.specs.Option.{option_map}
 use Rattle.vlog_tree.specs.declared.item.Item.{Item}

@@ -1,42 +1,70 @@
--- What NETLIST and STIM are, by the bytes that a shelf holds under their names.
-use Rattle.std.specs.Prelude.{ℕ, List, Bool}
+-- What NETLIST and STIM or TRACE are, by the bytes that a shelf holds under their names.
+use Rattle.std.specs.Prelude.{◌≡◌, ℕ, List, Bool}
 use Rattle.bm_base.specs.Held.{Held, bytes_under}
 use Rattle.vlog_tree.specs.declared.design.Design.{Design}
-use Rattle.vlog_tree.specs.Run.{Violates}
-use Rattle.bm_cli.specs.CutOff.{IsMinimised}
+use Rattle.vlog_tree.specs.Run.{IsFirstAtLast, Violates}
+use Rattle.bm_cli.specs.Acceptance.{HasLeastCut, IsAccepted}
+use Rattle.bm_cli.specs.Counted.{accepted_of}
 use Rattle.bm_cli.specs.Input.{IsNetlist, IsNoNetlist, IsNoWaveform, IsWaveform, design_labels}
 use Rattle.bm_cli.specs.Means.{machine_of}
-use Rattle.bm_cli.specs.Words.{Request}
+use Rattle.bm_cli.specs.Minimised.{IsMinimised}
+use Rattle.bm_cli.specs.Words.{Inputs}
+use Rattle.bm_cli.specs.declared.answer.Accepted.{Accepted}
 use Rattle.bm_cli.specs.declared.answer.Summary.{Summary}
 
-abbrev pub HasNetlist : Request → Held → Design → Type 0
-HasNetlist request held design = IsNetlist request.names (bytes_under held request.netlist) design
+abbrev pub HasNetlist : Inputs → Held → Design → Type 0
+HasNetlist inputs held design = IsNetlist inputs.names (bytes_under held inputs.netlist) design
 
-abbrev pub HasWaveform : Request → Held → Design → List (List Bool) → Type 0
-HasWaveform request held design rows = IsWaveform (design_labels request.names design) (bytes_under held request.stimulus) rows
+abbrev pub HasWaveform : Inputs → Held → Design → List (List Bool) → Type 0
+HasWaveform inputs held design rows = IsWaveform (design_labels inputs.names design) (bytes_under held inputs.waveform) rows
 
 -- NETLIST is not of the first form.
-abbrev pub HasNoNetlist : Request → Held → Type 0
-HasNoNetlist request held = IsNoNetlist request.names (bytes_under held request.netlist)
+abbrev pub HasNoNetlist : Inputs → Held → Type 0
+HasNoNetlist inputs held = IsNoNetlist inputs.names (bytes_under held inputs.netlist)
 
--- NETLIST is of the first form, and STIM is not.
-abbrev pub HasNoWaveform : Request → Held → Type 0
-HasNoWaveform request held = (design : Design) × HasNetlist request held design
-    × IsNoWaveform (design_labels request.names design) (bytes_under held request.stimulus)
+-- NETLIST is of the first form.
+abbrev pub HasSomeNetlist : Inputs → Held → Type 0
+HasSomeNetlist inputs held = (design : Design) × HasNetlist inputs held design
+
+-- NETLIST is of the first form, and the waveform is not.
+abbrev pub HasNoWaveform : Inputs → Held → Type 0
+HasNoWaveform inputs held = (design : Design) × HasNetlist inputs held design
+    × IsNoWaveform (design_labels inputs.names design) (bytes_under held inputs.waveform)
 
 -- Both are of the first form, and this holds of the design and the rows.
-abbrev pub HasInput : Request → Held → (Design → List (List Bool) → Type 0) → Type 0
-HasInput request held P = (design : Design) × (rows : List (List Bool)) × HasNetlist request held design × HasWaveform request held design rows × P design rows
+abbrev pub HasInput : Inputs → Held → (Design → List (List Bool) → Type 0) → Type 0
+HasInput inputs held P = (design : Design) × (rows : List (List Bool)) × HasNetlist inputs held design × HasWaveform inputs held design rows × P design rows
 
--- Both are of the first form, and some cycle of STIM violates.
-abbrev pub HasViolation : Request → Held → Type 0
-HasViolation request held = HasInput request held (λ design rows. Violates (machine_of request.names design) rows)
+-- Some cycle violates.
+abbrev pub HasViolation : Inputs → Held → Type 0
+HasViolation inputs held = HasInput inputs held (λ design rows. Violates (machine_of inputs.names design) rows)
 
--- Both are of the first form, and no cycle of STIM violates.
-abbrev pub HasNoViolation : Request → Held → Type 0
-HasNoViolation request held = HasInput request held (λ design rows. Violates (machine_of request.names design) rows → ⊥)
+-- No cycle violates.
+abbrev pub HasNoViolation : Inputs → Held → Type 0
+HasNoViolation inputs held = HasInput inputs held (λ design rows. Violates (machine_of inputs.names design) rows → ⊥)
 
--- Both are of the first form, and these are the text and the numbers that `minimise` makes of them.
-abbrev pub HasMinimised : Request → Held → List ℕ → Summary → Type 0
-HasMinimised request held text summary = HasInput request held (λ design rows.
-    IsMinimised (machine_of request.names design) (design_labels request.names design) rows text summary)
+-- These are the text and the numbers that `minimise` makes.
+abbrev pub HasMinimised : Inputs → Held → List ℕ → Summary → Type 0
+HasMinimised inputs held text summary = HasInput inputs held (λ design rows.
+    IsMinimised (machine_of inputs.names design) (design_labels inputs.names design) rows text summary)
+
+-- The trace is accepted.
+abbrev pub HasAccepted : Inputs → Held → Type 0
+HasAccepted inputs held = HasInput inputs held (λ design rows. IsAccepted (machine_of inputs.names design) rows)
+
+-- The trace is accepted, and these are its numbers.
+abbrev pub HasCounted : Inputs → Held → Accepted → Type 0
+HasCounted inputs held accepted = HasInput inputs held (λ design rows.
+    IsAccepted (machine_of inputs.names design) rows × (accepted ≡ accepted_of (design_labels inputs.names design) rows))
+
+-- The trace is not accepted.
+abbrev pub HasRejected : Inputs → Held → Type 0
+HasRejected inputs held = HasInput inputs held (λ design rows. IsAccepted (machine_of inputs.names design) rows → ⊥)
+
+-- The trace does not violate first at its last cycle.
+abbrev pub HasNotFirst : Inputs → Held → Type 0
+HasNotFirst inputs held = HasInput inputs held (λ design rows. IsFirstAtLast (machine_of inputs.names design) rows → ⊥)
+
+-- The trace violates first at its last cycle, and this is its first cycle that can go.
+abbrev pub HasCut : Inputs → Held → ℕ → Type 0
+HasCut inputs held i = HasInput inputs held (λ design rows. HasLeastCut (machine_of inputs.names design) rows i)

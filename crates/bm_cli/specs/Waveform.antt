@@ -8,6 +8,6 @@ use Rattle.vlog_words.specs.Words.{IsWord}
 abbrev pub AreScalars : List PortLabel → Type 0
 AreScalars ports = All (λ port. (port.width ≡ 1) × (port.range ≡ None)) ports
 
--- Each name that stands in a waveform without checker bits is a word.
+-- Each name that stands in a waveform is a word.
 abbrev pub AreWords : Labels → Type 0
-AreWords labels = IsWord labels.top × IsWord labels.clock × All (λ port. IsWord port.name) labels.ports
+AreWords labels = IsWord labels.top × IsWord labels.clock × IsWord labels.check × All (λ port. IsWord port.name) labels.ports

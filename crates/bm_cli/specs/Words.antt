@@ -8,13 +8,28 @@ use Rattle.bm_cli.specs.TopNames.{TopNames}
 abbrev pub texts : List (String Global) → List (List ℕ)
 texts words = map string_bytes words
 
--- what `minimise` is asked for: the names of its files, and the names that it is given
-pub record Request : Type 0 where
+-- what a command reads: the names of its netlist and its waveform, and the names that it is given
+pub record Inputs : Type 0 where
   pub netlist : List ℕ
-  pub stimulus : List ℕ
-  pub out : List ℕ
+  pub waveform : List ℕ
   pub names : TopNames
 
+-- what `minimise` is asked for: what it reads, and the name of the file that it writes
+pub record Request : Type 0 where
+  pub inputs : Inputs
+  pub out : List ℕ
+
+-- what the words ask for
+pub data Command : Type 0 where
+  minimise : Request → Command
+  check : Inputs → Command
+
+-- what a command reads
+abbrev pub inputs_of : Command → Inputs
+inputs_of (minimise request) = request.inputs
+inputs_of (check inputs) = inputs
+
+-- A name has a byte or more.
 abbrev pub IsName : List ℕ → Type 0
 IsName name = name ≢ []
 
@@ -23,25 +38,36 @@ abbrev pub IsFileName : List ℕ → Type 0
 IsFileName name = IsName name × (slice_get name 0 ≢ Some 45)
 
 -- No name is empty, and the files differ.
-pub record HasFitNames (request : Request) : Type 0 where
-  pub files : IsFileName request.netlist × IsFileName request.stimulus × IsFileName request.out
-  pub names : IsName request.names.top × IsName request.names.clock × IsName request.names.check
-  pub different : (request.netlist ≢ request.stimulus) × (request.netlist ≢ request.out) × (request.stimulus ≢ request.out)
+pub record HasFitNames (inputs : Inputs) : Type 0 where
+  pub files : IsFileName inputs.netlist × IsFileName inputs.waveform
+  pub names : IsName inputs.names.top × IsName inputs.names.clock × IsName inputs.names.check
+  pub different : inputs.netlist ≢ inputs.waveform
+
+-- The output is another file.
+pub record HasFitOut (request : Request) : Type 0 where
+  pub file : IsFileName request.out
+  pub different : (request.inputs.netlist ≢ request.out) × (request.inputs.waveform ≢ request.out)
+
+-- The names of a command are fit, with those of the file that it writes.
+abbrev pub HasFit : Command → Type 0
+HasFit (minimise request) = HasFitNames request.inputs × HasFitOut request
+HasFit (check inputs) = HasFitNames inputs
+
+-- the options, in their order
+abbrev pub options : TopNames → List (List ℕ)
+options names = codes "--top" ∷ names.top ∷ codes "--clock" ∷ names.clock ∷ codes "--check" ∷ names.check ∷ []
 
 -- The words are the program's name, the command, its files and its options, in this order.
-abbrev pub HasForm : List (List ℕ) → Request → Type 0
-HasForm words request = (program : List ℕ) × (words ≡ program ∷ codes "minimise" ∷ request.netlist ∷ request.stimulus ∷ request.out
-    ∷ codes "--top" ∷ request.names.top ∷ codes "--clock" ∷ request.names.clock ∷ codes "--check" ∷ request.names.check ∷ [])
+abbrev pub HasForm : List (List ℕ) → Command → Type 0
+HasForm words (minimise request) = (program : List ℕ)
+    × (words ≡ program ∷ codes "minimise" ∷ request.inputs.netlist ∷ request.inputs.waveform ∷ request.out ∷ options request.inputs.names)
+HasForm words (check inputs) = (program : List ℕ) × (words ≡ program ∷ codes "check" ∷ inputs.netlist ∷ inputs.waveform ∷ options inputs.names)
 
--- the words that are the same in each form
-abbrev pub HasFixedWords : List (List ℕ) → Type 0
-HasFixedWords words = (slice_get words 1 ≡ Some (codes "minimise")) × (slice_get words 5 ≡ Some (codes "--top"))
-    × (slice_get words 7 ≡ Some (codes "--clock")) × (slice_get words 9 ≡ Some (codes "--check"))
-
-pub record Asks (words : List (List ℕ)) (request : Request) : Type 0 where
-  pub form : HasForm words request
-  pub fit : HasFitNames request
+-- They have the command's form, and its names are fit.
+pub record Asks (words : List (List ℕ)) (command : Command) : Type 0 where
+  pub form : HasForm words command
+  pub fit : HasFit command
 
 -- They ask for nothing.
 abbrev pub AskNothing : List (List ℕ) → Type 0
-AskNothing words = (request : Request) → Asks words request → ⊥
+AskNothing words = (command : Command) → Asks words command → ⊥

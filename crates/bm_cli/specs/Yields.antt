@@ -1,8 +1,8 @@
 -- The status of a command, but for what may come before it.
-use Rattle.std.specs.Prelude.{◌≡◌, ◌⊎◌, ℕ, List, Result, Ok, Err}
+use Rattle.std.specs.Prelude.{◌≡◌, ◌⊎◌, Result, Ok, Err}
 use Rattle.bm_base.specs.declared.status.Status.{Status}
 use Rattle.bm_base.specs.declared.status.Status.TheVariants.{Done, ReadFault, WriteFault, Memory as NoMemory}
-use Rattle.bm_cli.specs.declared.answer.Summary.{Summary}
+use Rattle.bm_cli.specs.declared.answer.Success.{Success}
 use Rattle.bm_cli.specs.declared.answer.Stop.{Stop}
 use Rattle.bm_cli.specs.declared.answer.Stop.TheVariants as stop
 use Rattle.bm_cli.specs.Answer.{refusal_status}
@@ -16,8 +16,8 @@ abbrev pub Yields : Status → Status → Type 0 → Type 0 → Type 0
 Yields expected status reading printing = ((status ≡ ReadFault) × reading) ⊎ Printed expected status printing
 
 -- the status that a command ends with, by what it came to
-abbrev pub Ends : Result Summary Stop → Status → Type 0 → Type 0
-Ends (Ok summary) status printing = Printed Done status printing
+abbrev pub Ends : Result Success Stop → Status → Type 0 → Type 0
+Ends (Ok success) status printing = Printed Done status printing
 Ends (Err (stop.Refused refusal)) status printing = Printed (refusal_status refusal) status printing
 Ends (Err stop.WriteFault) status printing = status ≡ WriteFault
 Ends (Err stop.Memory) status printing = status ≡ NoMemory

@@ -1,7 +1,6 @@
 //! What a command answers, and the line that it prints.
 ghost use Rattle.std.specs.Prelude.{◌≡◌, IfOk};
 ghost use Rattle.std.specs.String.{string_bytes};
-ghost use Rattle.bm_cli.specs.Answer.{line_of, refusal_line, refusal_status, status_of};
 
 use bm_base::{NoMemory, Status};
 use std::alloc::{AllocError, AllocFailed, Global};
@@ -15,75 +14,6 @@ pub struct Summary {
     /// Cycles and events of the trace that was written.
     pub cycles: usize,
     pub events: u64,
-}
-
-/// Why a command's work was not done, where a line says so.
-#[derive(Clone, Copy, Debug, PartialEq, Eq)]
-pub enum Refusal {
-    /// No cycle of the stimulus violates.
-    NoViolation,
-    /// The words are of no command's form.
-    Words,
-    /// The netlist is not of the first form.
-    NetlistForm,
-    /// The waveform is not of the first form.
-    WaveformForm,
-    /// A file could not be read.
-    ReadFault,
-}
-
-impl Refusal {
-    fn status(&self) -> Status
-        ensures { result ≡ refusal_status self.now }
-    {
-        match self {
-            Refusal::NoViolation => Status::No,
-            Refusal::Words => Status::Words,
-            Refusal::NetlistForm => Status::Netlist,
-            Refusal::WaveformForm => Status::Waveform,
-            Refusal::ReadFault => Status::ReadFault,
-        }
-    }
-
-    fn line(&self) -> &'static str
-        ensures { result.now ≡ refusal_line self.now }
-    {
-        match self {
-            Refusal::NoViolation => "no violation\n",
-            Refusal::Words => "words refused\n",
-            Refusal::NetlistForm => "netlist refused: form\n",
-            Refusal::WaveformForm => "waveform refused: form\n",
-            Refusal::ReadFault => "read fault\n",
-        }
-    }
-}
-
-/// An answer that prints a line.
-#[derive(Clone, Copy, Debug, PartialEq, Eq)]
-pub enum Answer {
-    Minimised(Summary),
-    Refused(Refusal),
-}
-
-impl Answer {
-    pub fn status(&self) -> Status
-        ensures { result ≡ status_of self.now }
-    {
-        match self {
-            Answer::Minimised(_) => Status::Done,
-            Answer::Refused(refusal) => refusal.status(),
-        }
-    }
-
-    /// The line, with its newline.
-    pub fn line(&self, alloc: Global) -> Result<String, AllocError>
-        ensures { IfOk result (λ line. string_bytes line ≡ line_of self.now) }
-    {
-        match self {
-            Answer::Minimised(summary) => summary.line(alloc),
-            Answer::Refused(refusal) => String::from_str(alloc, refusal.line()),
-        }
-    }
 }
 
 impl Summary {
@@ -101,6 +31,123 @@ impl Summary {
         format!(in alloc;
             "minimised: cycles {cycles_before} to {cycles}, events {events_before} to {events}, windows 0 certified, 0 open, x 0\n"
         )
+    }
+}
+
+/// What `check` counts in a trace that it accepts.
+#[derive(Clone, Copy, Debug, PartialEq, Eq)]
+pub struct Accepted {
+    pub cycles: usize,
+    pub events: u64,
+}
+
+impl Accepted {
+    ghost use Rattle.bm_cli.specs.Answer.{accepted_line};
+
+    fn line(&self, alloc: Global) -> Result<String, AllocError>
+        ensures { IfOk result (λ line. string_bytes line ≡ accepted_line self.now) }
+    {
+        let Accepted { cycles, events } = *self;
+        format!(in alloc; "yes: cycles {cycles}, events {events}, windows 0 certified, 0 open\n")
+    }
+}
+
+/// What a command came to, where its work is done.
+#[derive(Clone, Copy, Debug, PartialEq, Eq)]
+pub enum Success {
+    Minimised(Summary),
+    Accepted(Accepted),
+}
+
+impl Success {
+    ghost use Rattle.bm_cli.specs.Answer.{success_line};
+
+    fn line(&self, alloc: Global) -> Result<String, AllocError>
+        ensures { IfOk result (λ line. string_bytes line ≡ success_line self.now) }
+    {
+        match self {
+            Success::Minimised(summary) => summary.line(alloc),
+            Success::Accepted(accepted) => accepted.line(alloc),
+        }
+    }
+}
+
+/// Why a command's work was not done, where a line says so.
+#[derive(Clone, Copy, Debug, PartialEq, Eq)]
+pub enum Refusal {
+    /// No cycle of the stimulus violates.
+    NoViolation,
+    /// The first violation of a trace is not its last cycle.
+    NotFirstAtLast,
+    /// A trace violates without this cycle, which is the first such one.
+    Cut { cycle: usize },
+    /// The words are of no command's form.
+    Words,
+    /// The netlist is not of the first form.
+    NetlistForm,
+    /// The waveform is not of the first form.
+    WaveformForm,
+    /// A file could not be read.
+    ReadFault,
+}
+
+impl Refusal {
+    ghost use Rattle.bm_cli.specs.Answer.{refusal_line, refusal_status};
+
+    fn status(&self) -> Status
+        ensures { result ≡ refusal_status self.now }
+    {
+        match self {
+            Refusal::NoViolation | Refusal::NotFirstAtLast | Refusal::Cut { .. } => Status::No,
+            Refusal::Words => Status::Words,
+            Refusal::NetlistForm => Status::Netlist,
+            Refusal::WaveformForm => Status::Waveform,
+            Refusal::ReadFault => Status::ReadFault,
+        }
+    }
+
+    fn line(&self, alloc: Global) -> Result<String, AllocError>
+        ensures { IfOk result (λ line. string_bytes line ≡ refusal_line self.now) }
+    {
+        match self {
+            Refusal::NoViolation => String::from_str(alloc, "no violation\n"),
+            Refusal::NotFirstAtLast => String::from_str(alloc, "no: N1\n"),
+            Refusal::Cut { cycle } => format!(in alloc; "no: N2 cycle {cycle}\n"),
+            Refusal::Words => String::from_str(alloc, "words refused\n"),
+            Refusal::NetlistForm => String::from_str(alloc, "netlist refused: form\n"),
+            Refusal::WaveformForm => String::from_str(alloc, "waveform refused: form\n"),
+            Refusal::ReadFault => String::from_str(alloc, "read fault\n"),
+        }
+    }
+}
+
+/// An answer that prints a line.
+#[derive(Clone, Copy, Debug, PartialEq, Eq)]
+pub enum Answer {
+    Done(Success),
+    Refused(Refusal),
+}
+
+impl Answer {
+    ghost use Rattle.bm_cli.specs.Answer.{line_of, status_of};
+
+    pub fn status(&self) -> Status
+        ensures { result ≡ status_of self.now }
+    {
+        match self {
+            Answer::Done(_) => Status::Done,
+            Answer::Refused(refusal) => refusal.status(),
+        }
+    }
+
+    /// The line, with its newline.
+    pub fn line(&self, alloc: Global) -> Result<String, AllocError>
+        ensures { IfOk result (λ line. string_bytes line ≡ line_of self.now) }
+    {
+        match self {
+            Answer::Done(success) => success.line(alloc),
+            Answer::Refused(refusal) => refusal.line(alloc),
+        }
     }
 }
 

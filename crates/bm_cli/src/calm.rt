@@ -1,9 +1,9 @@
 //! The top call over a shelf and a sink that never fail.
 ghost use Rattle.std.specs.Prelude.{◌≡◌, ◌≢◌, ◌⊎◌, Some};
-ghost use Rattle.bm_cli.specs.Command.{AskFor, IsDone, LeavesShelf};
+ghost use Rattle.bm_cli.specs.Command.{AskFor, IsDone, LeavesShelf, SaysNo, SaysYes};
 ghost use Rattle.bm_cli.specs.Printed.{PrintsForStatus};
-ghost use Rattle.bm_cli.specs.Verdict.{HasNoNetlist, HasNoViolation, HasNoWaveform, HasViolation};
-ghost use Rattle.bm_cli.specs.Words.{AskNothing, Asks, Request, texts};
+ghost use Rattle.bm_cli.specs.Verdict.{HasAccepted, HasNoNetlist, HasNoViolation, HasNoWaveform, HasRejected, HasViolation};
+ghost use Rattle.bm_cli.specs.Words.{AskNothing, Asks, Command, Inputs, Request, check, inputs_of, minimise, texts};
 
 use crate::run;
 use bm_base::{CalmShelf, CalmSink, Status};
@@ -21,14 +21,18 @@ pub fn run_calmly(
     ensures no_write_fault { result ≢ Status.WriteFault }
     ensures words { result ≡ Status.Words → AskNothing (texts words.now) }
     ensures words_refused { AskNothing (texts words.now) → (result ≡ Status.Words) ⊎ (result ≡ Status.Memory) }
-    ensures netlist { result ≡ Status.Netlist → AskFor (texts words.now) (λ request. HasNoNetlist request shelf.old) }
-    ensures netlist_refused { (request : Request) → Asks (texts words.now) request → HasNoNetlist request shelf.old → (result ≡ Status.Netlist) ⊎ (result ≡ Status.Memory) }
-    ensures waveform { result ≡ Status.Waveform → AskFor (texts words.now) (λ request. HasNoWaveform request shelf.old) }
-    ensures waveform_refused { (request : Request) → Asks (texts words.now) request → HasNoWaveform request shelf.old → (result ≡ Status.Waveform) ⊎ (result ≡ Status.Memory) }
-    ensures no_violation { result ≡ Status.No → AskFor (texts words.now) (λ request. HasNoViolation request shelf.old) }
-    ensures no_violation_found { (request : Request) → Asks (texts words.now) request → HasNoViolation request shelf.old → (result ≡ Status.No) ⊎ (result ≡ Status.Memory) }
-    ensures minimised { result ≡ Status.Done → AskFor (texts words.now) (λ request. IsDone request shelf.old (Some shelf.new) (Some out.old) (Some out.new)) }
-    ensures violation_found { (request : Request) → Asks (texts words.now) request → HasViolation request shelf.old → (result ≡ Status.Done) ⊎ (result ≡ Status.Memory) }
+    ensures netlist { result ≡ Status.Netlist → AskFor (texts words.now) (λ command. HasNoNetlist (inputs_of command) shelf.old) }
+    ensures netlist_refused { (command : Command) → Asks (texts words.now) command → HasNoNetlist (inputs_of command) shelf.old → (result ≡ Status.Netlist) ⊎ (result ≡ Status.Memory) }
+    ensures waveform { result ≡ Status.Waveform → AskFor (texts words.now) (λ command. HasNoWaveform (inputs_of command) shelf.old) }
+    ensures waveform_refused { (command : Command) → Asks (texts words.now) command → HasNoWaveform (inputs_of command) shelf.old → (result ≡ Status.Waveform) ⊎ (result ≡ Status.Memory) }
+    ensures no_violation { (request : Request) → Asks (texts words.now) (minimise request) → result ≡ Status.No → HasNoViolation request.inputs shelf.old }
+    ensures no_violation_found { (request : Request) → Asks (texts words.now) (minimise request) → HasNoViolation request.inputs shelf.old → (result ≡ Status.No) ⊎ (result ≡ Status.Memory) }
+    ensures minimised { (request : Request) → Asks (texts words.now) (minimise request) → result ≡ Status.Done → IsDone request shelf.old (Some shelf.new) (Some out.old) (Some out.new) }
+    ensures violation_found { (request : Request) → Asks (texts words.now) (minimise request) → HasViolation request.inputs shelf.old → (result ≡ Status.Done) ⊎ (result ≡ Status.Memory) }
+    ensures says_yes { (inputs : Inputs) → Asks (texts words.now) (check inputs) → result ≡ Status.Done → SaysYes inputs shelf.old (Some out.old) (Some out.new) }
+    ensures accepted { (inputs : Inputs) → Asks (texts words.now) (check inputs) → HasAccepted inputs shelf.old → (result ≡ Status.Done) ⊎ (result ≡ Status.Memory) }
+    ensures says_no { (inputs : Inputs) → Asks (texts words.now) (check inputs) → result ≡ Status.No → SaysNo inputs shelf.old (Some out.old) (Some out.new) }
+    ensures rejected { (inputs : Inputs) → Asks (texts words.now) (check inputs) → HasRejected inputs shelf.old → (result ≡ Status.No) ⊎ (result ≡ Status.Memory) }
     ensures shelf { LeavesShelf (texts words.now) result (Some shelf.old) (Some shelf.new) }
     ensures printed { PrintsForStatus result (Some out.old) (Some out.new) }
 {

@@ -1,5 +1,6 @@
 //! Laws of the forms that the commands read. Each is the contract of a function that does nothing.
 ghost use Rattle.std.specs.Prelude.{◌≡◌, Bool, List};
+ghost use Rattle.bm_cli.specs.Agreement.{IsAcceptedAgain};
 ghost use Rattle.bm_cli.specs.Input.{SpellsRows};
 ghost use Rattle.bm_cli.specs.LoopFree.{FirstFormIsLoopFree};
 ghost use Rattle.bm_cli.specs.Spelling.{IsOneDesign};
@@ -22,4 +23,9 @@ pub fn bytes_are_one_trace(labels: &Labels, bytes: &[u8])
 /// A netlist of the first form is loop-free: each bit has a value in every state under every row.
 pub fn netlists_are_loop_free()
     ensures { FirstFormIsLoopFree }
+{}
+
+/// What `minimise` wrote, `check` accepts, where it is no longer than a waveform may be.
+pub fn check_accepts_what_minimise_wrote()
+    ensures { IsAcceptedAgain }
 {}

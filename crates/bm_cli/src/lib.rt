@@ -3,8 +3,11 @@
 
 mod answer;
 mod calm;
+mod check;
+mod count;
 mod files;
 mod form;
+mod inputs;
 pub mod laws;
 mod minimise;
 mod netlist;

@@ -4,12 +4,12 @@ ghost use Rattle.vlog_tree.specs.declared.design.Design.{Design as Tree};
 ghost use Rattle.bm_cli.specs.Asked.{names_of};
 ghost use Rattle.bm_cli.specs.Circuit.{IsInOrder};
 ghost use Rattle.bm_cli.specs.Input.{IsRead, SpellsNetlist};
-ghost use Rattle.bm_cli.specs.Named.{AreNamed};
 ghost use Rattle.bm_cli.specs.Spelling.{Spells};
 ghost use Rattle.bm_cli.specs.Waveform.{AreScalars};
 
 pub mod circuit;
 mod conditions;
+pub mod deletion;
 mod grammar;
 mod meaning;
 pub mod simulation;
@@ -38,7 +38,6 @@ pub fn design(alloc: Global, bytes: &[u8]) -> Result<Design, FormFault>
 pub fn read(alloc: Global, bytes: &[u8], names: &Names) -> Result<(Circuit, Labels), FormFault>
     ensures circuit { IfOk result (λ read. IsInOrder read.0) }
     ensures ports { IfOk result (λ read. AreScalars read.1.ports × (length read.1.ports ≡ read.0.inputs)) }
-    ensures labels { IfOk result (λ read. AreNamed (names_of names.now) read.1) }
     ensures read { IfOk result (λ read. IsRead (names_of names.now) bytes.now read.0 read.1) }
     ensures refused { IsErrOf result FormFault.Form → (design : Tree) → SpellsNetlist (names_of names.now) bytes.now design → ⊥ }
 {

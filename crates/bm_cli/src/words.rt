@@ -1,15 +1,7 @@
-ghost use Rattle.std.specs.Prelude.{◌≡◌, ◌≢◌, ◌<◌, ◌↔◌, [], IsTrue, IfNone, IfSome, Some, length, slice_get};
-ghost use Rattle.bm_cli.specs.Words.{Request, texts, Asks, AskNothing, HasForm, HasFixedWords, HasFitNames, IsFileName, IsName};
-ghost use Rattle.bm_cli.specs.Asked.{request_of};
-
-/// What `minimise` is asked for.
-#[derive(Clone, Copy)]
-pub struct Minimise<'a> {
-    pub netlist: &'a str,
-    pub stimulus: &'a str,
-    pub out: &'a str,
-    pub names: Names<'a>,
-}
+ghost use Rattle.std.specs.Prelude.{◌≡◌, ◌≢◌, ◌<◌, ◌↔◌, IsTrue, IfNone, IfSome, Some, length, slice_get};
+ghost use Rattle.bm_cli.specs.Asked.{command_of, given_inputs, names_of, request_of};
+ghost use Rattle.bm_cli.specs.TopNames.{TopNames};
+ghost use Rattle.bm_cli.specs.Words.{AskNothing, Asks, Command, HasFit, HasFitNames, HasFitOut, HasForm, Inputs as InputNames, IsFileName, IsName, Request, check, minimise, options, texts};
 
 /// The names of the top module, its clock and its checker.
 #[derive(Clone, Copy)]
@@ -19,49 +11,106 @@ pub struct Names<'a> {
     pub check: &'a str,
 }
 
+/// What a command reads: the files of its netlist and its waveform, and the names that it is given.
+#[derive(Clone, Copy)]
+pub struct Inputs<'a> {
+    pub netlist: &'a str,
+    pub waveform: &'a str,
+    pub names: Names<'a>,
+}
+
+/// What `minimise` is asked for.
+#[derive(Clone, Copy)]
+pub struct Minimise<'a> {
+    pub inputs: Inputs<'a>,
+    pub out: &'a str,
+}
+
+/// What the words ask for.
+#[derive(Clone, Copy)]
+pub enum Asked<'a> {
+    Minimise(Minimise<'a>),
+    Check(Inputs<'a>),
+}
+
 /// Reads the words, the program's name first. None where they are of no command's form.
-pub fn read_words<'a>(words: &'a [String]) -> Option<Minimise<'a>>
-    ensures asked { IfSome result (λ found. Asks (texts words.now) (request_of found)) }
+pub fn read_words<'a>(words: &'a [String]) -> Option<Asked<'a>>
+    ensures asked { IfSome result (λ found. Asks (texts words.now) (command_of found)) }
     ensures refused { IfNone result (AskNothing (texts words.now)) }
 {
     let found = match read_form(words) {
         Some(found) => found,
         None => return None,
     };
-    if has_fit_names(&found) {
-        Some(found)
-    } else {
-        None
+    if is_fit(&found) { Some(found) } else { None }
+}
+
+fn read_form<'a>(words: &'a [String]) -> Option<Asked<'a>>
+    ensures form { IfSome result (λ found. HasForm (texts words.now) (command_of found)) }
+    ensures refused { IfNone result ((command : Command) → HasForm (texts words.now) command → ⊥) }
+{
+    match read_minimise(words) {
+        Some(found) => Some(Asked::Minimise(found)),
+        None => match read_check(words) {
+            Some(found) => Some(Asked::Check(found)),
+            None => None,
+        },
     }
 }
 
-fn read_form<'a>(words: &'a [String]) -> Option<Minimise<'a>>
-    ensures form { IfSome result (λ found. HasForm (texts words.now) (request_of found)) }
-    ensures refused { IfNone result ((request : Request) → HasForm (texts words.now) request → ⊥) }
+fn read_minimise<'a>(words: &'a [String]) -> Option<Minimise<'a>>
+    ensures form { IfSome result (λ found. HasForm (texts words.now) (minimise (request_of found))) }
+    ensures refused { IfNone result ((request : Request) → HasForm (texts words.now) (minimise request) → ⊥) }
 {
-    if words.len() != 11 || !has_fixed_words(words) {
+    if words.len() != 11 || !is_word(words, 1, "minimise") {
         return None;
     }
-    Some(Minimise {
-        netlist: word(words, 2),
-        stimulus: word(words, 3),
-        out: word(words, 4),
-        names: Names {
-            top: word(words, 6),
-            clock: word(words, 8),
-            check: word(words, 10),
-        },
-    })
+    match read_options(&words[5..]) {
+        Some(names) => Some(Minimise {
+            inputs: Inputs {
+                netlist: word(words, 2),
+                waveform: word(words, 3),
+                names,
+            },
+            out: word(words, 4),
+        }),
+        None => None,
+    }
 }
 
-fn has_fixed_words(words: &[String]) -> bool
-    requires { length words.now ≡ 11 }
-    ensures { IsTrue result ↔ HasFixedWords (texts words.now) }
+fn read_check<'a>(words: &'a [String]) -> Option<Inputs<'a>>
+    ensures form { IfSome result (λ found. HasForm (texts words.now) (check (given_inputs found))) }
+    ensures refused { IfNone result ((inputs : InputNames) → HasForm (texts words.now) (check inputs) → ⊥) }
 {
-    is_word(words, 1, "minimise")
-        && is_word(words, 5, "--top")
-        && is_word(words, 7, "--clock")
-        && is_word(words, 9, "--check")
+    if words.len() != 10 || !is_word(words, 1, "check") {
+        return None;
+    }
+    match read_options(&words[4..]) {
+        Some(names) => Some(Inputs {
+            netlist: word(words, 2),
+            waveform: word(words, 3),
+            names,
+        }),
+        None => None,
+    }
+}
+
+fn read_options<'a>(words: &'a [String]) -> Option<Names<'a>>
+    ensures read { IfSome result (λ found. texts words.now ≡ options (names_of found)) }
+    ensures refused { IfNone result ((names : TopNames) → texts words.now ≢ options names) }
+{
+    if words.len() != 6
+        || !is_word(words, 0, "--top")
+        || !is_word(words, 2, "--clock")
+        || !is_word(words, 4, "--check")
+    {
+        return None;
+    }
+    Some(Names {
+        top: word(words, 1),
+        clock: word(words, 3),
+        check: word(words, 5),
+    })
 }
 
 fn is_word(words: &[String], i: usize, text: &str) -> bool
@@ -78,31 +127,36 @@ fn word(words: &[String], i: usize) -> &str
     words[i].as_str()
 }
 
-fn has_fit_names(found: &Minimise) -> bool
-    ensures { IsTrue result ↔ HasFitNames (request_of found.now) }
+fn is_fit(asked: &Asked) -> bool
+    ensures { IsTrue result ↔ HasFit (command_of asked.now) }
+{
+    match asked {
+        Asked::Minimise(found) => has_fit_names(&found.inputs) && has_fit_out(found),
+        Asked::Check(found) => has_fit_names(found),
+    }
+}
+
+fn has_fit_names(found: &Inputs) -> bool
+    ensures { IsTrue result ↔ HasFitNames (given_inputs found.now) }
 {
     let names = found.names;
-    are_file_names(found.netlist, found.stimulus, found.out)
-        && differ(found.netlist, found.stimulus, found.out)
+    is_file_name(found.netlist)
+        && is_file_name(found.waveform)
+        && found.netlist != found.waveform
         && are_names(names.top, names.clock, names.check)
 }
 
-fn are_file_names(a: &str, b: &str, c: &str) -> bool
-    ensures { IsTrue result ↔ (IsFileName a.now × IsFileName b.now × IsFileName c.now) }
+fn has_fit_out(found: &Minimise) -> bool
+    ensures { IsTrue result ↔ HasFitOut (request_of found.now) }
 {
-    is_file_name(a) && is_file_name(b) && is_file_name(c)
+    let inputs = found.inputs;
+    is_file_name(found.out) && inputs.netlist != found.out && inputs.waveform != found.out
 }
 
 fn are_names(a: &str, b: &str, c: &str) -> bool
     ensures { IsTrue result ↔ (IsName a.now × IsName b.now × IsName c.now) }
 {
     !a.is_empty() && !b.is_empty() && !c.is_empty()
-}
-
-fn differ(a: &str, b: &str, c: &str) -> bool
-    ensures { IsTrue result ↔ ((a.now ≢ b.now) × (a.now ≢ c.now) × (b.now ≢ c.now)) }
-{
-    a != b && a != c && b != c
 }
 
 fn is_file_name(name: &str) -> bool

@@ -1,4 +1,4 @@
-ghost use Rattle.std.specs.Prelude.{◌≡◌, ◌+◌, ◌*◌, ◌^◌, ◌<◌, ◌≤◌, ◌↔◌, All, length, slice_get, Some, IsTrue, OnOk, OnErr};
+ghost use Rattle.std.specs.Prelude.{◌≡◌, ◌+◌, ◌*◌, ◌^◌, ◌<◌, ◌≤◌, ◌↔◌, All, length, slice_get, Some, IfOk, IsTrue, OnOk, OnErr};
 ghost use Rattle.trace_rows.specs.Events.{change_count};
 
 use bm_base::{Bits, NoMemory};
@@ -24,6 +24,7 @@ impl Model for Trace {
 }
 
 impl Trace {
+    ghost use Rattle.trace_rows.specs.Cut.{cut_rows};
     ghost use Rattle.trace_rows.specs.Events.{event_count};
     ghost use Rattle.trace_rows.specs.Rows.{Rows, no_rows, with_row, first_rows, bit_of};
 
@@ -91,6 +92,20 @@ impl Trace {
         ensures { self.new ≡ first_rows n self.old }
     {
         self.rows.truncate(n);
+    }
+
+    /// A copy without row `i`, for the deletion of a cycle.
+    pub fn cut_copy(&self, alloc: Global, i: usize) -> Result<Trace, NoMemory>
+        requires { i < length self.now.rows }
+        ensures { IfOk result (λ copy. copy ≡ cut_rows i self.now) }
+    {
+        let mut copy = Trace::new(alloc, self.width);
+        for (t, row) in self.rows.iter().enumerate() {
+            if t != i {
+                copy.push(row)?;
+            }
+        }
+        Ok(copy)
     }
 
     /// How many bits change from one row to the next, where the first row follows `base`.

@@ -1,5 +1,5 @@
 -- Lemmas on the violations of runs.
-use Rattle.std.proofs.Common.{◌≡◌, ◌≢◌, ◌↔◌, ℕ, ◌+◌, ◌<◌, zero, suc, List, [], ◌∷◌, Bool, true, false, Some, None, length, position, slice_get, take, arith, refl, ap, sym, ◌∙◌}
+use Rattle.std.proofs.Common.{◌≡◌, ◌≢◌, ◌↔◌, ℕ, ◌+◌, ◌-◌, ◌<◌, zero, suc, List, [], ◌∷◌, Bool, true, false, Some, None, length, position, slice_get, take, get_or, arith, refl, ap, sym, ◌∙◌}
 use Rattle.std.specs.List.{position_from}
 use Rattle.std.proofs.lemmas.Bool.{true≢false}
 use Rattle.std.proofs.lemmas.Iterator.Adapters.{position_from-zero}
@@ -100,3 +100,26 @@ no_violation machine rows e (cycle, v) = no_entry (checks machine rows) 0 cycle 
 -- Where some cycle violates, some bit is 1.
 pub some_violation : (machine : Machine) (rows : List (List Bool)) → Violates machine rows → position (λ bit. bit) (checks machine rows) ≢ None
 some_violation machine rows v e = no_violation machine rows e v
+
+position_at : (bits : List Bool) (i k : ℕ) → get_or bits k false ≡ true → ((j : ℕ) → j < k → get_or bits j false ≡ false) → position_from (λ bit. bit) i bits ≡ Some (i + k)
+position_at [] i k at before = absurd (true≢false (sym at))
+position_at (true ∷ bits) i zero at before = ap Some (let e : i ≡ i + 0 = omega arith in e)
+position_at (false ∷ bits) i zero at before = absurd (true≢false (sym at))
+position_at (true ∷ bits) i (suc k) at before = absurd (true≢false (before 0 (omega arith)))
+position_at (false ∷ bits) i (suc k) at before =
+    position_at bits (i + 1) k at (λ j lt. before (suc j) (omega arith)) ∙ ap Some (let e : i + 1 + k ≡ i + suc k = omega arith in e)
+
+not_true : (bit : Bool) → (bit ≡ true → ⊥) → bit ≡ false
+not_true true other = absurd (other refl)
+not_true false other = refl
+
+-- Where a trace violates first at its last cycle, the first 1 is the last bit.
+pub last_is_first : (machine : Machine) (rows : List (List Bool)) → IsFirstAtLast machine rows → position (λ bit. bit) (checks machine rows) ≡ Some (length rows - 1)
+last_is_first machine rows first =
+    let bits : List Bool = checks machine rows in
+    let at : get_or bits first.last false ≡ true = get_or_from_slice_get bits first.last true false ((violates_entry machine rows first.last).1 first.violates) in
+    let long : length bits ≡ length rows = checks-length machine rows in
+    let before : (j : ℕ) → j < first.last → get_or bits j false ≡ false = λ j lt.
+    not_true (get_or bits j false) (λ e. first.first j lt ((violates_entry machine rows j).0 (slice_get-get_or bits j false (let last = first.is_last in omega arith) ∙ ap Some e))) in
+    let last : 0 + first.last ≡ length rows - 1 = let is = first.is_last in omega arith in
+    position_from-zero (λ bit. bit) bits ∙ position_at bits 0 first.last at before ∙ ap Some last

@@ -7,7 +7,6 @@ ghost use Rattle.bm_cli.specs.Asked.{names_of};
 ghost use Rattle.bm_cli.specs.Roles.{name_in, shown};
 ghost use Rattle.bm_cli.specs.FirstForm.{is_plain_item, is_plain_kind, are_gate_outs, are_gate_ins, is_whole_left, is_whole, is_move, declared_name, input_name, output_name, net_name, register_name, driven_name, written_name, taken_name, edge_name, first_left, left_name, whole_name, is_among, are_among, are_distinct, are_other, are_all, is_not_reserved, without, is_known, reads_only, are_reads_known, are_same, are_declared, are_driven, are_written, are_taken, sources, are_free, IsTop, AreFirstForm, IsFirstForm};
 ghost use Rattle.bm_cli.specs.Circuit.{AreInOrder, IsInOrder, ReadsBelow};
-ghost use Rattle.bm_cli.specs.Named.{AreNamed};
 ghost use Rattle.bm_cli.specs.Waveform.{AreScalars};
 ghost use Rattle.bm_cli.specs.declared.form.FormFault.TheVariants.{Form};
 ghost use Rattle.vlog_tree.specs.declared.design.Module.{Module};

@@ -1,10 +1,11 @@
-// `run` answers what the program of the definitions computes from the syntax tree.
-ghost use Rattle.std.specs.Prelude.{◌≡◌, IfOk};
+// The program of the definitions judges the trace that `run` makes.
+ghost use Rattle.std.specs.Prelude.{◌≡◌, IfOk, length};
 ghost use Rattle.bm_cli.specs.Waveform.{AreScalars};
 
-use super::words;
-use crate::{netlist, run};
-use bm_base::{Bits, MemShelf, MemSink, Name, NoMemory, Status};
+use super::{MINIMISE, answer, expect};
+use crate::netlist;
+use crate::waveform::read_waveform;
+use bm_base::{Bits, MemShelf, Name, NoMemory, Status};
 use sqlite_items::Items;
 use std::alloc::{AllocError, Global};
 use std::process::Abort;
@@ -164,43 +165,61 @@ fn trace(alloc: Global, width: usize, rows: &[Bits]) -> Result<Trace, Fail>
     Ok(trace)
 }
 
-fn text(
-    alloc: Global,
-    labels: &Labels,
-    rows: &[Bits],
-    checks: Option<&Bits>,
-) -> Result<Vec<u8>, Fail>
-    requires { AreScalars labels.now.ports }
+// The text of the rows without checker bits.
+fn text(alloc: Global, labels: &Labels, trace: &Trace) -> Result<Vec<u8>, Fail>
+    requires scalars { AreScalars labels.now.ports }
+    requires width { trace.now.width ≡ length labels.now.ports }
 {
-    let trace = trace(alloc, labels.ports.len(), rows)?;
     if trace.len() == 0 {
         return Err("no rows".into());
     }
-    if let Some(checks) = checks {
-        if checks.len() != trace.len() {
-            return Err("not a bit for each row".into());
-        }
-    }
-    Ok(vcd_text(alloc, &trace, labels, checks)?)
+    Ok(vcd_text(alloc, trace, labels, None)?)
 }
 
-// The status of `run` over these files, and what OUT holds afterwards has to be this.
-fn expect(
+// The checker's bits in the cycles of a trace.
+fn checks_of(alloc: Global, machine: &Machine, trace: &Trace) -> Result<Vec<bool>, NoMemory> {
+    let mut rows = Vec::new(alloc);
+    for t in 0..trace.len() {
+        rows.push(trace.row(t).clone()?)?;
+    }
+    checks(alloc, machine, &rows)
+}
+
+// The last cycle violates and none before it does, and without any one cycle none does.
+fn judge(rt: &impl Abort, alloc: Global, machine: &Machine, trace: &Trace) -> Result<(), Fail> {
+    let found = checks_of(alloc, machine, trace)?;
+    let [before @ .., last] = found.as_slice() else {
+        return Err("no cycle".into());
+    };
+    assert!(rt; *last && !before.contains(&true));
+    for i in 0..trace.len() {
+        let found = checks_of(alloc, machine, &trace.cut_copy(alloc, i)?)?;
+        assert!(rt; !found.contains(&true), "without {i}");
+    }
+    Ok(())
+}
+
+// `minimise` and then `check` succeed, and each counts the cycles.
+fn minimise(
     rt: &impl Abort,
     alloc: Global,
-    netlist: &str,
-    stimulus: &[u8],
-    status: Status,
-    out: Option<&[u8]>,
-) -> Result<(), Fail> {
-    let mut shelf = MemShelf::new(alloc);
-    shelf.add("n.v", netlist.as_bytes())?;
-    shelf.add("s.vcd", stimulus)?;
-    let words = words(alloc, "o.vcd")?;
-    let mut sink = MemSink::new(alloc);
-    let found = run(alloc, &words, &mut shelf, &mut sink);
-    assert_eq!(rt; found, status, "{netlist}");
-    assert!(rt; shelf.bytes("o.vcd") == out, "{netlist}");
+    machine: &Machine,
+    labels: &Labels,
+    shelf: &mut MemShelf,
+    cycles: usize,
+) -> Result<(), Fail>
+    requires { AreScalars labels.now.ports }
+{
+    let (status, line) = answer(alloc, shelf, &MINIMISE)?;
+    assert_eq!(rt; status, Status::Done);
+    let made = read_waveform(alloc, labels, shelf.bytes("o.vcd").ok_or("no output")?)?;
+    judge(rt, alloc, machine, &made)?;
+    let counts = format!(in alloc; "minimised: cycles {cycles} to {}, ", made.len())?;
+    assert!(rt; line.starts_with(counts.as_bytes()));
+    let (status, line) = answer(alloc, shelf, &["check", "n.v", "o.vcd"])?;
+    assert_eq!(rt; status, Status::Done);
+    let count = format!(in alloc; "yes: cycles {}, ", made.len())?;
+    assert!(rt; line.starts_with(count.as_bytes()));
     Ok(())
 }
 
@@ -209,21 +228,29 @@ fn compare(rt: &impl Abort, alloc: Global, case: Case) -> Result<(), Fail> {
     let design = netlist::design(alloc, netlist.as_bytes())?;
     let machine = machine(&design);
     let rows = rows(alloc, digits)?;
-    let found = checks(alloc, &machine, &rows)?;
     assert_eq!(rt;
-        found.as_slice(),
+        checks(alloc, &machine, &rows)?.as_slice(),
         flags(alloc, expected)?.as_slice(),
         "{netlist}"
     );
     let labels = labels(alloc, &input_keys(alloc, &machine)?)?;
-    let stimulus = text(alloc, &labels, &rows, None)?;
-    let Some(cycle) = found.iter().position(|bit| *bit) else {
-        return expect(rt, alloc, netlist, &stimulus, Status::No, None);
-    };
-    assert!(rt; cycle < rows.len() && cycle < found.len(), "{netlist}");
-    let cut = bits(alloc, &found[..cycle + 1])?;
-    let out = text(alloc, &labels, &rows[..cycle + 1], Some(&cut))?;
-    expect(rt, alloc, netlist, &stimulus, Status::Done, Some(&out))
+    let stimulus = trace(alloc, labels.ports.len(), &rows)?;
+    let mut shelf = MemShelf::new(alloc);
+    shelf.add("n.v", netlist.as_bytes())?;
+    shelf.add("s.vcd", &text(alloc, &labels, &stimulus)?)?;
+    if expected.contains('1') {
+        return minimise(rt, alloc, &machine, &labels, &mut shelf, stimulus.len());
+    }
+    expect(
+        rt,
+        alloc,
+        &mut shelf,
+        &MINIMISE,
+        Status::No,
+        "no violation\n",
+    )?;
+    assert!(rt; shelf.bytes("o.vcd").is_none());
+    Ok(())
 }
 
 // The checker's bits, one cycle at a time.

@@ -1,7 +1,6 @@
 // What is refused differs in one thing from what is accepted.
-use super::{shelf, words};
-use crate::run;
-use bm_base::{MemSink, Status};
+use super::{MINIMISE, shelf};
+use bm_base::Status;
 use std::alloc::Global;
 use std::process::Abort;
 use std::test::Fail;
@@ -116,10 +115,7 @@ const WAVEFORMS: [Edit; 17] = [
 // The status and the line of the command over these files.
 fn answer(alloc: Global, netlist: &str, stimulus: &str) -> Result<(Status, Vec<u8>), Fail> {
     let mut shelf = shelf(alloc, netlist, stimulus)?;
-    let words = words(alloc, "o.vcd")?;
-    let mut sink = MemSink::new(alloc);
-    let status = run(alloc, &words, &mut shelf, &mut sink);
-    Ok((status, Vec::from_slice(alloc, sink.bytes())?))
+    super::answer(alloc, &mut shelf, &MINIMISE)
 }
 
 fn accept(rt: &impl Abort, alloc: Global, netlist: &str) -> Result<(), Fail> {

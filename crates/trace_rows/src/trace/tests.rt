@@ -49,3 +49,22 @@ fn counts_the_changes_from_row_to_row(rt: HostRuntime) -> Result<(), Fail> {
     }
     Ok(())
 }
+
+#[test]
+fn a_cut_copy_lacks_one_row(rt: HostRuntime) -> Result<(), Fail> {
+    let alloc = rt.alloc();
+    let trace = trace(alloc, 2, &[0b00, 0b01, 0b10])?;
+    for (i, left) in [(0, [0b01, 0b10]), (1, [0b00, 0b10]), (2, [0b00, 0b01])] {
+        assert!(rt; i < trace.len());
+        let copy = trace.cut_copy(alloc, i)?;
+        assert_eq!(rt; copy.width(), 2);
+        assert_eq!(rt; copy.len(), 2);
+        for (t, number) in left.iter().enumerate() {
+            assert!(rt;
+                copy.row(t).same(&row(alloc, 2, *number)?),
+                "without {i}, row {t}"
+            );
+        }
+    }
+    Ok(())
+}

@@ -4,4 +4,4 @@ use Rattle.bm_cli.proofs.laws.bytes_are_one_trace.Goals as goal
 
 pub returns : goal.returns
 returns c = λ rows others is is_others.
-    one_trace c.args.labels.now c.requires.scalars c.requires.words c.args.bytes.now (omega arith) rows others is.some is_others.some is.widths is_others.widths is.text is_others.text
+    one_trace c.args.labels.now c.requires.scalars c.requires.words c.args.bytes.now (omega arith) rows others is is_others

@@ -1,70 +1,55 @@
-use Rattle.std.proofs.Common.{◌≡◌, ap, Err, subst, sym, ◌∙◌}
-use Rattle.bm_cli.specs.Asked.{request_of}
+use Rattle.std.proofs.Common.{◌≡◌, ap, Err, subst}
 use Rattle.std.specs.Option.{option_map}
 use Rattle.bm_base.specs.Held.{holding}
+use Rattle.bm_cli.specs.Asked.{request_of}
 use Rattle.bm_cli.specs.Files.{HoldsPrefix}
-use Rattle.bm_cli.specs.Reason.{CallCounts, Reason}
-use Rattle.bm_cli.proofs.ReasonLemmas.{passed_on, stimulus_stopped}
-use Rattle.bm_cli.proofs.ToldLemmas.{cut_stopped, out_told, part_later, rose_later, violation_told, written_later}
+use Rattle.bm_cli.specs.Reason.{CallCounts, MinimiseReason}
+use Rattle.bm_cli.proofs.ReadingLemmas.{passed_on}
+use Rattle.bm_cli.proofs.ToldLemmas.{out_told, part_later, reducing_stopped, rose_later, violation_told, written_later}
 use Rattle.bm_cli.proofs.minimise.minimise.Goals as goal
-
-pub returns-in_err-trace-clause-reason : goal.returns-in_err-trace-clause-reason
-returns-in_err-trace-clause-reason g c =
-    let counts : CallCounts = record { reads = g.F.Shelf.reads c.args.shelf.now; reads_now = g.F.Shelf.reads c.read_stimulus.new.shelf; writes = g.F.Shelf.writes c.args.shelf.now; writes_now = g.F.Shelf.writes c.read_stimulus.new.shelf } in
-    passed_on (Reason (request_of c.args.asked.now) (g.F.Shelf.held c.args.shelf.now) counts) c.from_residual-in_err-trace.result c.in_err-trace.field-0.0 c.from_residual-in_err-trace.ensures.1
-    (stimulus_stopped (request_of c.args.asked.now) (g.F.Shelf.held c.args.shelf.now) (g.F.Shelf.held c.read_netlist.new.shelf) counts
-    (g.F.Shelf.reads c.read_netlist.new.shelf) c.in_ok-circuit.circuit c.in_ok-circuit.labels c.in_err-trace.field-0.0
-    c.in_ok-circuit.ensures.read c.read_netlist.ensures.only_reads.held_stays c.read_netlist.ensures.only_reads.reads_rise
-    c.in_err-trace.ensures.stops (λ is words. c.in_err-trace.ensures.refused (ap Err is) words))
 
 pub returns-in_err-text-clause-reason : goal.returns-in_err-text-clause-reason
 returns-in_err-text-clause-reason g c =
-    let counts : CallCounts = record { reads = g.F.Shelf.reads c.args.shelf.now; reads_now = g.F.Shelf.reads c.read_stimulus.new.shelf; writes = g.F.Shelf.writes c.args.shelf.now; writes_now = g.F.Shelf.writes c.read_stimulus.new.shelf } in
-    passed_on (Reason (request_of c.args.asked.now) (g.F.Shelf.held c.args.shelf.now) counts) c.from_residual-in_err-text.result c.in_err-text.field-0.0 c.from_residual-in_err-text.ensures.1
-    (cut_stopped (request_of c.args.asked.now) (g.F.Shelf.held c.args.shelf.now) (g.F.Shelf.held c.read_netlist.new.shelf) c.in_ok-circuit.circuit c.in_ok-circuit.labels c.in_ok-trace.trace.rows
-    c.in_ok-circuit.ensures.read c.read_netlist.ensures.only_reads.held_stays c.in_ok-trace.ensures.read c.in_ok-circuit.ensures.ports.1
+    let counts : CallCounts = record { reads = g.F.Shelf.reads c.args.shelf.now; reads_now = g.F.Shelf.reads c.read_inputs.new.shelf; writes = g.F.Shelf.writes c.args.shelf.now; writes_now = g.F.Shelf.writes c.read_inputs.new.shelf } in
+    passed_on (MinimiseReason (request_of c.args.asked.now) (g.F.Shelf.held c.args.shelf.now) counts) c.from_residual-in_err-text.result c.in_err-text.field-0.0 c.from_residual-in_err-text.ensures.1
+    (reducing_stopped (request_of c.args.asked.now) (g.F.Shelf.held c.args.shelf.now) c.in_ok-circuit.circuit c.in_ok-circuit.labels c.in_ok-circuit.trace.rows c.in_ok-circuit.ensures.read
     counts c.in_err-text.field-0.0 c.in_err-text.ensures.stops (λ is. c.in_err-text.ensures.none (ap Err is)))
 
 pub returns-in-Ok-clause-written : goal.returns-in-Ok-clause-written
 returns-in-Ok-clause-written g c = (
   c.in_ok-text.text.items,
-  out_told (request_of c.args.asked.now) (g.F.Shelf.held c.args.shelf.now) (g.F.Shelf.held c.read_netlist.new.shelf) c.in_ok-circuit.circuit c.in_ok-circuit.labels c.in_ok-trace.trace.rows
-      c.in_ok-circuit.ensures.read c.read_netlist.ensures.only_reads.held_stays c.in_ok-trace.ensures.read c.in_ok-circuit.ensures.ports.1
-      c.in_ok-text.text.items c.in_ok-text.summary c.in_ok-text.ensures.cut,
-  written_later (request_of c.args.asked.now) (g.F.Shelf.held c.args.shelf.now) (g.F.Shelf.held c.read_stimulus.new.shelf) (g.F.Shelf.held c.write_file.new.shelf) c.in_ok-text.text.items
-      (c.read_stimulus.ensures.only_reads.held_stays ∙ c.read_netlist.ensures.only_reads.held_stays)
-      (subst (λ t. g.F.Shelf.held c.write_file.new.shelf ≡ option_map (holding c.args.asked.now.out.now t) (g.F.Shelf.held c.read_stimulus.new.shelf)) c.deref.ensures.value c.in-Ok.ensures.ok),
+  out_told (request_of c.args.asked.now) (g.F.Shelf.held c.args.shelf.now) c.in_ok-circuit.circuit c.in_ok-circuit.labels c.in_ok-circuit.trace.rows c.in_ok-circuit.ensures.read
+      c.in_ok-text.text.items c.in_ok-text.summary c.in_ok-text.ensures.reduced,
+  written_later (request_of c.args.asked.now) (g.F.Shelf.held c.args.shelf.now) (g.F.Shelf.held c.read_inputs.new.shelf) (g.F.Shelf.held c.write_file.new.shelf) c.in_ok-text.text.items
+      c.read_inputs.ensures.held
+      (subst (λ t. g.F.Shelf.held c.write_file.new.shelf ≡ option_map (holding c.args.asked.now.out.now t) (g.F.Shelf.held c.read_inputs.new.shelf)) c.deref.ensures.value c.in-Ok.ensures.ok),
 )
 
 pub returns-in-Ok-clause-reason : goal.returns-in-Ok-clause-reason
 returns-in-Ok-clause-reason g c =
-    violation_told (request_of c.args.asked.now) (g.F.Shelf.held c.args.shelf.now) (g.F.Shelf.held c.read_netlist.new.shelf) c.in_ok-circuit.circuit c.in_ok-circuit.labels c.in_ok-trace.trace.rows
-    c.in_ok-circuit.ensures.read c.read_netlist.ensures.only_reads.held_stays c.in_ok-trace.ensures.read c.in_ok-circuit.ensures.ports.1
-    c.in_ok-text.text.items c.in_ok-text.summary c.in_ok-text.ensures.cut
+    violation_told (request_of c.args.asked.now) (g.F.Shelf.held c.args.shelf.now) c.in_ok-circuit.circuit c.in_ok-circuit.labels c.in_ok-circuit.trace.rows c.in_ok-circuit.ensures.read
+    c.in_ok-text.text.items c.in_ok-text.summary c.in_ok-text.ensures.reduced
 
 pub returns-in-Err-Failed-clause-part : goal.returns-in-Err-Failed-clause-part
 returns-in-Err-Failed-clause-part g c =
-    part_later (request_of c.args.asked.now) (g.F.Shelf.held c.args.shelf.now) (g.F.Shelf.held c.read_stimulus.new.shelf) (g.F.Shelf.held c.write_file.new.shelf) c.in_ok-text.text.items c.in_ok-text.summary
-    (c.read_stimulus.ensures.only_reads.held_stays ∙ c.read_netlist.ensures.only_reads.held_stays)
-    (out_told (request_of c.args.asked.now) (g.F.Shelf.held c.args.shelf.now) (g.F.Shelf.held c.read_netlist.new.shelf) c.in_ok-circuit.circuit c.in_ok-circuit.labels c.in_ok-trace.trace.rows
-    c.in_ok-circuit.ensures.read c.read_netlist.ensures.only_reads.held_stays c.in_ok-trace.ensures.read c.in_ok-circuit.ensures.ports.1
-    c.in_ok-text.text.items c.in_ok-text.summary c.in_ok-text.ensures.cut)
-    (subst (λ t. HoldsPrefix c.args.asked.now.out.now t (g.F.Shelf.held c.read_stimulus.new.shelf) (g.F.Shelf.held c.write_file.new.shelf)) c.deref.ensures.value c.in-Err-Failed.ensures.err)
+    part_later (request_of c.args.asked.now) (g.F.Shelf.held c.args.shelf.now) (g.F.Shelf.held c.read_inputs.new.shelf) (g.F.Shelf.held c.write_file.new.shelf) c.in_ok-text.text.items c.in_ok-text.summary
+    c.read_inputs.ensures.held
+    (out_told (request_of c.args.asked.now) (g.F.Shelf.held c.args.shelf.now) c.in_ok-circuit.circuit c.in_ok-circuit.labels c.in_ok-circuit.trace.rows c.in_ok-circuit.ensures.read
+    c.in_ok-text.text.items c.in_ok-text.summary c.in_ok-text.ensures.reduced)
+    (subst (λ t. HoldsPrefix c.args.asked.now.out.now t (g.F.Shelf.held c.read_inputs.new.shelf) (g.F.Shelf.held c.write_file.new.shelf)) c.deref.ensures.value c.in-Err-Failed.ensures.err)
 
 pub returns-in-Err-Failed-clause-reason : goal.returns-in-Err-Failed-clause-reason
 returns-in-Err-Failed-clause-reason g c = (
-  rose_later c.args.asked.now.out.now (g.F.Shelf.writes c.args.shelf.now) (g.F.Shelf.writes c.read_netlist.new.shelf) (g.F.Shelf.writes c.read_stimulus.new.shelf) (g.F.Shelf.writes c.write_file.new.shelf)
-      c.read_netlist.ensures.only_reads.writes_stay c.read_stimulus.ensures.only_reads.writes_stay (c.in-Err-Failed.ensures.cause (ap Err c.in-Err-Failed.field-0-is)),
-  violation_told (request_of c.args.asked.now) (g.F.Shelf.held c.args.shelf.now) (g.F.Shelf.held c.read_netlist.new.shelf) c.in_ok-circuit.circuit c.in_ok-circuit.labels c.in_ok-trace.trace.rows
-      c.in_ok-circuit.ensures.read c.read_netlist.ensures.only_reads.held_stays c.in_ok-trace.ensures.read c.in_ok-circuit.ensures.ports.1
-      c.in_ok-text.text.items c.in_ok-text.summary c.in_ok-text.ensures.cut,
+  rose_later c.args.asked.now.out.now (g.F.Shelf.writes c.args.shelf.now) (g.F.Shelf.writes c.read_inputs.new.shelf) (g.F.Shelf.writes c.write_file.new.shelf)
+      c.read_inputs.ensures.writes (c.in-Err-Failed.ensures.cause (ap Err c.in-Err-Failed.field-0-is)),
+  violation_told (request_of c.args.asked.now) (g.F.Shelf.held c.args.shelf.now) c.in_ok-circuit.circuit c.in_ok-circuit.labels c.in_ok-circuit.trace.rows c.in_ok-circuit.ensures.read
+      c.in_ok-text.text.items c.in_ok-text.summary c.in_ok-text.ensures.reduced,
 )
 
 pub returns-clause-part : goal.returns-clause-part
 returns-clause-part g c =
-    part_later (request_of c.args.asked.now) (g.F.Shelf.held c.args.shelf.now) (g.F.Shelf.held c.read_stimulus.new.shelf) (g.F.Shelf.held c.write_file.new.shelf) c.in_ok-text.text.items c.in_ok-text.summary
-    (c.read_stimulus.ensures.only_reads.held_stays ∙ c.read_netlist.ensures.only_reads.held_stays)
-    (out_told (request_of c.args.asked.now) (g.F.Shelf.held c.args.shelf.now) (g.F.Shelf.held c.read_netlist.new.shelf) c.in_ok-circuit.circuit c.in_ok-circuit.labels c.in_ok-trace.trace.rows
-    c.in_ok-circuit.ensures.read c.read_netlist.ensures.only_reads.held_stays c.in_ok-trace.ensures.read c.in_ok-circuit.ensures.ports.1
-    c.in_ok-text.text.items c.in_ok-text.summary c.in_ok-text.ensures.cut)
-    (subst (λ t. HoldsPrefix c.args.asked.now.out.now t (g.F.Shelf.held c.read_stimulus.new.shelf) (g.F.Shelf.held c.write_file.new.shelf)) c.deref.ensures.value c.in-Err-Memory.ensures.err)
+    part_later (request_of c.args.asked.now) (g.F.Shelf.held c.args.shelf.now) (g.F.Shelf.held c.read_inputs.new.shelf) (g.F.Shelf.held c.write_file.new.shelf) c.in_ok-text.text.items c.in_ok-text.summary
+    c.read_inputs.ensures.held
+    (out_told (request_of c.args.asked.now) (g.F.Shelf.held c.args.shelf.now) c.in_ok-circuit.circuit c.in_ok-circuit.labels c.in_ok-circuit.trace.rows c.in_ok-circuit.ensures.read
+    c.in_ok-text.text.items c.in_ok-text.summary c.in_ok-text.ensures.reduced)
+    (subst (λ t. HoldsPrefix c.args.asked.now.out.now t (g.F.Shelf.held c.read_inputs.new.shelf) (g.F.Shelf.held c.write_file.new.shelf)) c.deref.ensures.value c.in-Err-Memory.ensures.err)

@@ -1,5 +1,4 @@
-use Rattle.std.proofs.Common.{List, ℕ, Bor, rules, sym, ◌∙◌, tests, not}
-use Rattle.std.specs.Str.{bytes_eq}
+use Rattle.std.proofs.Common.{List, ℕ, Bor, rules, sym, ◌∙◌, tests}
 use Rattle.std.proofs.lemmas.Iterator.{YieldsList-from_slice}
 use Rattle.std.proofs.lemmas.Iterator.Search.{all_from_yields_List}
 use Rattle.std.proofs.lemmas.List.Folds.{list_all-map}

@@ -1,4 +1,4 @@
-use Rattle.std.proofs.Common.{◌≡◌, ◌<◌, ℕ, suc, true, false, length, refl, rules, arith}
+use Rattle.std.proofs.Common.{◌≡◌, suc, true, false, length, refl, rules, arith}
 use Rattle.std.proofs.lemmas.Grind.{common_steps}
 use Rattle.bm_cli.specs.Tokens.{toks}
 use Rattle.bm_cli.specs.GrammarReads.{read_body}

@@ -1,9 +1,7 @@
-use Rattle.std.proofs.Common.{◌≡◌, ◌<◌, ℕ, suc, true, false, length, refl, rules, arith}
+use Rattle.std.proofs.Common.{suc, length, rules, arith}
 use Rattle.std.proofs.lemmas.Grind.{common_steps}
 use Rattle.bm_cli.specs.Tokens.{toks}
-use Rattle.std.proofs.Common.{ap, ◌∙◌}
-use Rattle.vlog_tree.specs.declared.item.Item.{Item}
-use Rattle.bm_cli.specs.GrammarReads.{read_header, ports_from, and_then, Outcome}
+use Rattle.bm_cli.specs.GrammarReads.{read_header}
 use Rattle.bm_cli.proofs.GrammarLemmas.{enough_after, ports_more, ports_step, ports_end, header_start}
 use Rattle.bm_cli.proofs.netlist.grammar.header.Goals as goal
 

@@ -1,9 +1,8 @@
-use Rattle.std.proofs.Common.{◌≡◌, ◌+◌, ◌++◌, [], ◌∷◌, Bor, List, ap, arith, drop, filter, subst, true, sym, take, ◌∙◌}
+use Rattle.std.proofs.Common.{◌≡◌, ◌++◌, [], ◌∷◌, Bor, List, ap, arith, drop, filter, subst, true, sym, take, ◌∙◌}
 use Rattle.std.specs.List.{cons_option}
-use Rattle.std.proofs.lemmas.Bool.{and_parts}
 use Rattle.std.proofs.lemmas.List.{length-map, take_all}
 use Rattle.vlog_tree.specs.declared.item.Item.{Item}
-use Rattle.bm_cli.specs.FirstForm.{Text, are_reads_known, driven_name, is_plain_item, reads_only}
+use Rattle.bm_cli.specs.FirstForm.{Text, driven_name, reads_only}
 use Rattle.bm_cli.specs.Roles.{texts}
 use Rattle.bm_cli.specs.Wired.{AreGatesOf, is_gate}
 use Rattle.bm_cli.specs.declared.netlist.circuit.Gate.{Gate}

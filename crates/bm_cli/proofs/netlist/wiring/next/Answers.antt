@@ -1,4 +1,4 @@
-use Rattle.std.proofs.Common.{◌≡◌, ◌<◌, Bor, List, Some, ap, arith, get_or, length, slice_get, subst, sym, true, ◌∙◌}
+use Rattle.std.proofs.Common.{◌≡◌, ◌<◌, Bor, ap, arith, length, subst, true, ◌∙◌}
 use Rattle.std.proofs.lemmas.List.{length-map}
 use Rattle.std.proofs.lemmas.Option.{slice_get_within}
 use Rattle.bm_cli.specs.FirstForm.{Text, is_among, taken, written}

@@ -1,4 +1,4 @@
-use Rattle.std.proofs.Common.{◌≡◌, ℕ, List, Bor, Option, Some, None, cond, IsSome, length, ltb, rules, subst, sym, ap, ◌∙◌, tests, slice_get, refl}
+use Rattle.std.proofs.Common.{◌≡◌, ℕ, List, Bor, Option, Some, None, cond, IsSome, length, ltb, rules, subst, sym, ◌∙◌, tests, slice_get, refl}
 use Rattle.std.specs.List.{position_or_len}
 use Rattle.std.specs.Str.{bytes_eq}
 use Rattle.std.proofs.lemmas.Iterator.{YieldsList-from_slice}

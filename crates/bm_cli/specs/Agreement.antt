@@ -1,0 +1,16 @@
+-- What `minimise` wrote, `check` accepts.
+use Rattle.std.specs.Prelude.{ℕ, ◌≤◌, List, length}
+use Rattle.bm_base.specs.Held.{Held, holding}
+use Rattle.bm_cli.specs.Verdict.{HasAccepted, HasMinimised}
+use Rattle.bm_cli.specs.Words.{Asks, Inputs, Request, minimise}
+use Rattle.bm_cli.specs.declared.answer.Summary.{Summary}
+
+-- what `check` reads, to judge what a request wrote
+abbrev pub written_by : Request → Inputs
+written_by request = record { netlist = request.inputs.netlist; waveform = request.out; names = request.inputs.names }
+
+-- The text of `minimise`, if it is no longer than a waveform may be, is accepted on the shelf that holds it under the output's name.
+abbrev pub IsAcceptedAgain : Type 0
+IsAcceptedAgain = (words : List (List ℕ)) (request : Request) (held : Held) (text : List ℕ) (summary : Summary)
+    → Asks words (minimise request) → HasMinimised request.inputs held text summary → length text ≤ 1048576
+    → HasAccepted (written_by request) (holding request.out text held)
