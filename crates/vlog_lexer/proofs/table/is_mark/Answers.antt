@@ -1,0 +1,6 @@
+use Rattle.vlog_lexer.specs.Tables.{marks}
+use Rattle.vlog_lexer.proofs.table.is_mark.Goals as goal
+
+pub returns : goal.returns
+unfolding marks
+returns c = c.is_among.ensures

@@ -1,0 +1,69 @@
+//! Sets of bytes, of which tokens and comments have runs.
+ghost use Rattle.std.specs.Prelude.{◌≡◌, ◌≤◌, length};
+ghost use Rattle.vlog_lexer.specs.Classes.{is_in, is_space, is_unknown_digit};
+ghost use Rattle.vlog_lexer.specs.Runs.{IsRun};
+
+use vlog_words::{is_space, is_word_byte};
+
+#[derive(Clone, Copy)]
+pub enum Class {
+    /// White space.
+    SpaceByte,
+    /// What may stand in a word.
+    WordByte,
+    /// What may stand in a line, all but a newline.
+    LineByte,
+    /// What may stand in an escaped name.
+    NameByte,
+    /// What may stand in a decimal.
+    DecimalByte,
+    /// The digits of base `b`.
+    BinaryDigit,
+    /// The digits of base `o`.
+    OctalDigit,
+    /// The digits of base `d`.
+    DecimalDigit,
+    /// The digits of base `h`.
+    HexDigit,
+}
+
+/// Where the longest run of bytes of the class ends that begins at the place.
+pub fn run_end(class: Class, source: &[u8], from: usize) -> usize
+    requires { from ≤ length source.now }
+    ensures { IsRun class source.now from result }
+{
+    let mut to = from;
+    while to < source.len() && is_in(class, source[to]) {
+        to += 1;
+    }
+    to
+}
+
+fn is_in(class: Class, byte: u8) -> bool
+    ensures { result ≡ is_in class byte }
+{
+    match class {
+        Class::SpaceByte => is_blank(byte),
+        Class::WordByte => is_word_byte(byte),
+        Class::LineByte => byte != b'\n',
+        Class::NameByte => byte.is_ascii_graphic(),
+        Class::DecimalByte => byte.is_ascii_digit() || byte == b'_',
+        Class::BinaryDigit => byte == b'0' || byte == b'1' || is_unknown_digit(byte),
+        Class::OctalDigit => matches!(byte, b'0'..=b'7') || is_unknown_digit(byte),
+        Class::DecimalDigit => byte.is_ascii_digit() || is_unknown_digit(byte),
+        Class::HexDigit => byte.is_ascii_hexdigit() || is_unknown_digit(byte),
+    }
+}
+
+/// Whether the byte is white space.
+pub fn is_blank(byte: u8) -> bool
+    ensures { result ≡ is_space byte }
+{
+    is_space(byte)
+}
+
+fn is_unknown_digit(byte: u8) -> bool
+    ensures { result ≡ is_unknown_digit byte }
+{
+    byte == b'x' || byte == b'X' || byte == b'z' || byte == b'Z' || byte == b'?' || byte == b'_'
+}
