@@ -6,9 +6,9 @@ use Rattle.std.proofs.Math.Seq.{take-append_seam}
 use Rattle.std.proofs.lemmas.Bool.{false≢true}
 use Rattle.std.proofs.lemmas.List.{append-nil}
 use Rattle.std.proofs.lemmas.List.Folds.{list_any-append}
-use Rattle.vlog_lexer.specs.Attributes.{DropsAttributes, KeepsOpenMarks, closes, opens, stay, without_attributes}
+use Rattle.vlog_tokens.specs.Attributes.{DropsAttributes, KeepsOpenMarks, closes, opens, stay, without_attributes}
+use Rattle.vlog_tokens.specs.Toks.{Tok}
 use Rattle.vlog_lexer.specs.Leaves.{IsOpen, Leaves}
-use Rattle.vlog_lexer.specs.Toks.{Tok}
 
 or_head : (a b : Bool) → (a || b) ≡ false → a ≡ false
 or_head true b h = h

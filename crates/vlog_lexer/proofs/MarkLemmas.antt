@@ -5,8 +5,8 @@ use Rattle.std.proofs.lemmas.Bool.Decides.{nat_tests}
 use Rattle.std.proofs.lemmas.List.{length-drop, length-take}
 use Rattle.std.proofs.lemmas.List.Elements.{All-contains}
 use Rattle.std.proofs.lemmas.List.Sums.{AllPass-from_list_all}
-use Rattle.vlog_lexer.specs.Forms.{IsMark}
-use Rattle.vlog_lexer.specs.Tables.{marks}
+use Rattle.vlog_tokens.specs.Forms.{IsMark}
+use Rattle.vlog_tokens.specs.Tables.{marks}
 
 abbrev is_short : List ℕ → Bool
 is_short text = length text == 1 || length text == 2

@@ -3,12 +3,12 @@ use Rattle.std.proofs.Common.{◌≡◌, ◌<◌, ◌≤◌, inl, inr, ℕ, ◌+
 use Rattle.std.specs.List.{list_any, slice_range}
 use Rattle.std.proofs.lemmas.Bool.{cases_Bool}
 use Rattle.std.proofs.lemmas.List.{length-drop, length-take}
-use Rattle.vlog_lexer.specs.Attributes.{closes, opens, stay}
-use Rattle.vlog_lexer.specs.Rows.{row_at}
-use Rattle.vlog_lexer.specs.Toks.{Tok}
-use Rattle.vlog_lexer.specs.Tokens.{AreInOrder, ArePieces, IsOrdered, token_of, tokens_of}
-use Rattle.vlog_lexer.specs.declared.row.Row.{Row}
-use Rattle.vlog_lexer.specs.declared.row.Row.TheVariants.{Space, LineComment, BlockComment, Directive, Token}
+use Rattle.vlog_tokens.specs.Attributes.{closes, opens, stay}
+use Rattle.vlog_tokens.specs.Rows.{row_at}
+use Rattle.vlog_tokens.specs.Toks.{Tok}
+use Rattle.vlog_tokens.specs.Tokens.{AreInOrder, ArePieces, IsOrdered, token_of, tokens_of}
+use Rattle.vlog_tokens.specs.declared.row.Row.{Row}
+use Rattle.vlog_tokens.specs.declared.row.Row.TheVariants.{Space, LineComment, BlockComment, Directive, Token}
 
 earlier : (s : List ℕ) (from mid : ℕ) (ts : List Tok) → from ≤ mid → AreInOrder s mid ts → AreInOrder s from ts
 earlier s from mid [] h p = tt

@@ -2,13 +2,14 @@
 use Rattle.std.proofs.Common.{◌≡◌, ◌<◌, ◌≤◌, ℕ, List, [], ◌∷◌, ◌++◌, length, refl, sym, ◌∙◌, ap, subst, arith, append_assoc, Option}
 use Rattle.std.specs.List.{slice_range}
 use Rattle.std.proofs.lemmas.List.{append-nil}
+use Rattle.vlog_tokens.specs.Forms.{HasForm, IsPiece}
+use Rattle.vlog_tokens.specs.Rows.{row_at}
+use Rattle.vlog_tokens.specs.Toks.{Tok}
+use Rattle.vlog_tokens.specs.Tokens.{ArePieces, AreTokens, token_of, tokens_of}
+use Rattle.vlog_tokens.specs.declared.row.Row.{Row}
 use Rattle.vlog_lexer.specs.Leaves.{Leaves}
-use Rattle.vlog_lexer.specs.Forms.{HasForm, IsPiece}
-use Rattle.vlog_lexer.specs.Rows.{row_at}
-use Rattle.vlog_lexer.specs.Toks.{Tok}
-use Rattle.vlog_lexer.specs.Tokens.{ArePieces, AreTokens, FailsAt, fault_of, token_of, tokens_of}
+use Rattle.vlog_lexer.specs.Faults.{FailsAt, fault_of}
 use Rattle.vlog_lexer.specs.declared.fault.LexFault.{LexFault}
-use Rattle.vlog_lexer.specs.declared.row.Row.{Row}
 use Rattle.vlog_lexer.proofs.AttributeLemmas.{leaves_all}
 
 pub record Stands (source : List ℕ) (at : ℕ) (left : List Tok) (opened : Option ℕ) : Type 0 where

@@ -1,7 +1,7 @@
 -- One more byte of a string.
 use Rattle.std.proofs.Common.{◌≡◌, ◌<◌, ◌≤◌, ◌==◌, ◌&&◌, not, inl, inr, ℕ, suc, ◌+◌, ◌-◌, Bool, false, List, get_or, sym, ◌∙◌, ap, subst, arith}
 use Rattle.std.proofs.lemmas.Bool.{cases_lt}
-use Rattle.vlog_lexer.specs.Strings.{is_quote, is_taken}
+use Rattle.vlog_tokens.specs.Strings.{is_quote, is_taken}
 
 pub taken_next : (s : List ℕ) (from at : ℕ) (taken next : Bool) → from ≤ at → taken ≡ is_taken s from (at - from)
     → next ≡ (get_or s at 0 == 92 && not taken) → next ≡ is_taken s from (at + 1 - from)

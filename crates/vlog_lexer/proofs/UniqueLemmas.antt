@@ -1,19 +1,20 @@
 -- At most one piece stands at a place, and so a source has one list of tokens or one fault at most.
 use Rattle.std.proofs.Common.{◌≡◌, ◌<◌, ◌≤◌, inl, inr, ℕ, ◌+◌, List, [], ◌∷◌, length, refl, sym, ◌∙◌, ap, subst, arith}
 use Rattle.std.proofs.lemmas.Bool.{false≢true, cases_lt}
-use Rattle.vlog_lexer.specs.Attributes.{without_attributes}
-use Rattle.vlog_lexer.specs.Comments.{IsFirstClose}
-use Rattle.vlog_lexer.specs.Forms.{HasForm, IsBased, IsDirective, IsMark, IsPiece, IsToken, base_at}
-use Rattle.vlog_lexer.specs.Rows.{row_at}
-use Rattle.vlog_lexer.specs.Runs.{IsRun}
-use Rattle.vlog_lexer.specs.Strings.{IsString}
-use Rattle.vlog_lexer.specs.Tokens.{ArePieces, IsOneFault, IsOneTokenList, IsTokensOrFault, fault_of, tokens_of}
-use Rattle.vlog_lexer.specs.declared.class.Class.{Class}
-use Rattle.vlog_lexer.specs.declared.class.Class.TheVariants.{SpaceByte, WordByte, LineByte, NameByte, DecimalByte}
-use Rattle.vlog_lexer.specs.declared.row.Row.{Row}
-use Rattle.vlog_lexer.specs.declared.row.Row.TheVariants.{Space, LineComment, BlockComment, Directive, Token}
-use Rattle.vlog_lexer.specs.declared.token.TokenKind.{TokenKind}
-use Rattle.vlog_lexer.specs.declared.token.TokenKind.TheVariants.{Word, Escaped, System, Decimal, Based, Text, Mark}
+use Rattle.vlog_tokens.specs.Attributes.{without_attributes}
+use Rattle.vlog_tokens.specs.Comments.{IsFirstClose}
+use Rattle.vlog_tokens.specs.Forms.{HasForm, IsBased, IsDirective, IsMark, IsPiece, IsToken, base_at}
+use Rattle.vlog_tokens.specs.Rows.{row_at}
+use Rattle.vlog_tokens.specs.Runs.{IsRun}
+use Rattle.vlog_tokens.specs.Strings.{IsString}
+use Rattle.vlog_tokens.specs.Tokens.{ArePieces, IsOneTokenList, tokens_of}
+use Rattle.vlog_tokens.specs.declared.class.Class.{Class}
+use Rattle.vlog_tokens.specs.declared.class.Class.TheVariants.{SpaceByte, WordByte, LineByte, NameByte, DecimalByte}
+use Rattle.vlog_tokens.specs.declared.row.Row.{Row}
+use Rattle.vlog_tokens.specs.declared.row.Row.TheVariants.{Space, LineComment, BlockComment, Directive, Token}
+use Rattle.vlog_tokens.specs.declared.token.TokenKind.{TokenKind}
+use Rattle.vlog_tokens.specs.declared.token.TokenKind.TheVariants.{Word, Escaped, System, Decimal, Based, Text, Mark}
+use Rattle.vlog_lexer.specs.Faults.{IsOneFault, IsTokensOrFault, fault_of}
 
 longer_run : (c : Class) (s : List ℕ) (f a b : ℕ) → IsRun c s f a → IsRun c s f b → a < b → ⊥
 longer_run c s f a b p q h =

@@ -1,8 +1,8 @@
 -- What is left of the tokens read so far.
 use Rattle.std.specs.Prelude.{◌≡◌, ℕ, ◌++◌, true, false, List, [], ◌∷◌, length, Option, Some, None}
 use Rattle.std.specs.List.{list_any}
-use Rattle.vlog_lexer.specs.Attributes.{closes, opens, without_attributes}
-use Rattle.vlog_lexer.specs.Toks.{Tok}
+use Rattle.vlog_tokens.specs.Attributes.{closes, opens, without_attributes}
+use Rattle.vlog_tokens.specs.Toks.{Tok}
 
 -- No attribute is open, or one is: its `(*` has this number among the tokens that are left, and no token after it closes it.
 abbrev pub IsOpen : Option ℕ → List Tok → List Tok → Type 0

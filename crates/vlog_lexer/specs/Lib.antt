@@ -1,11 +1,2 @@
-pub mod Attributes
-pub mod Classes
-pub mod Comments
-pub mod Forms
+pub mod Faults
 pub mod Leaves
-pub mod Rows
-pub mod Runs
-pub mod Strings
-pub mod Tables
-pub mod Tokens
-pub mod Toks

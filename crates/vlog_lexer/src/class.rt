@@ -1,31 +1,10 @@
 //! Sets of bytes, of which tokens and comments have runs.
 ghost use Rattle.std.specs.Prelude.{◌≡◌, ◌≤◌, length};
-ghost use Rattle.vlog_lexer.specs.Classes.{is_in, is_space, is_unknown_digit};
-ghost use Rattle.vlog_lexer.specs.Runs.{IsRun};
+ghost use Rattle.vlog_tokens.specs.Classes.{is_in, is_space, is_unknown_digit};
+ghost use Rattle.vlog_tokens.specs.Runs.{IsRun};
 
+use vlog_tokens::Class;
 use vlog_words::{is_space, is_word_byte};
-
-#[derive(Clone, Copy)]
-pub enum Class {
-    /// White space.
-    SpaceByte,
-    /// What may stand in a word.
-    WordByte,
-    /// What may stand in a line, all but a newline.
-    LineByte,
-    /// What may stand in an escaped name.
-    NameByte,
-    /// What may stand in a decimal.
-    DecimalByte,
-    /// The digits of base `b`.
-    BinaryDigit,
-    /// The digits of base `o`.
-    OctalDigit,
-    /// The digits of base `d`.
-    DecimalDigit,
-    /// The digits of base `h`.
-    HexDigit,
-}
 
 /// Where the longest run of bytes of the class ends that begins at the place.
 pub fn run_end(class: Class, source: &[u8], from: usize) -> usize

@@ -1,14 +1,14 @@
 //! Where the blank piece or the token ends that a place of a source begins.
 ghost use Rattle.std.specs.Prelude.{◌≡◌, ◌==◌, ◌&&◌, not, ℕ, ◌+◌, ◌<◌, ◌≤◌, IfNone, IfSome, length};
-ghost use Rattle.vlog_lexer.specs.Comments.{IsFirstClose};
-ghost use Rattle.vlog_lexer.specs.Forms.{HasForm, IsBased, IsDirective, IsEscaped, IsMark, IsSystem, IsToken, base_at, digits_of};
-ghost use Rattle.vlog_lexer.specs.Rows.{row_at};
-ghost use Rattle.vlog_lexer.specs.Strings.{IsString};
+ghost use Rattle.vlog_tokens.specs.Comments.{IsFirstClose};
+ghost use Rattle.vlog_tokens.specs.Forms.{HasForm, IsBased, IsDirective, IsEscaped, IsMark, IsSystem, IsToken, base_at, digits_of};
+ghost use Rattle.vlog_tokens.specs.Rows.{row_at};
+ghost use Rattle.vlog_tokens.specs.Strings.{IsString};
 
-use crate::class::{Class, is_blank, run_end};
-use crate::row::{Row, byte_at};
+use crate::class::{is_blank, run_end};
+use crate::row::byte_at;
 use crate::table::{is_directive, is_mark};
-use crate::token::TokenKind;
+use vlog_tokens::{Class, Row, TokenKind};
 
 /// Where that ends which stands at the place, if something does.
 pub fn piece_end(source: &[u8], at: usize, row: Row) -> Option<usize>

@@ -1,15 +1,14 @@
 //! The tokens that are left of those read so far, without those of attributes.
 ghost use Rattle.std.specs.Prelude.{◌≡◌, List, [], ◌∷◌, ◌++◌, IfErr, IfOk};
-ghost use Rattle.vlog_lexer.specs.Attributes.{closes, opens};
+ghost use Rattle.vlog_tokens.specs.Attributes.{closes, opens};
+ghost use Rattle.vlog_tokens.specs.Toks.{Tok, tok_of, toks};
+ghost use Rattle.vlog_tokens.specs.Tokens.{token_of};
 ghost use Rattle.vlog_lexer.specs.Leaves.{Leaves};
-ghost use Rattle.vlog_lexer.specs.Toks.{Tok, tok_of, toks};
-ghost use Rattle.vlog_lexer.specs.Tokens.{token_of};
 ghost use Rattle.vlog_lexer.specs.declared.fault.LexFault.TheVariants.{Memory};
 
 use crate::fault::LexFault;
-use crate::row::Row;
-use crate::token::Token;
 use std::alloc::Global;
+use vlog_tokens::{Row, Token};
 
 #[derive(Drop)]
 pub struct Kept<'a> {

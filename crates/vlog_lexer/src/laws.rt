@@ -1,6 +1,7 @@
 //! What the definitions say of every source.
-ghost use Rattle.vlog_lexer.specs.Attributes.{DropsAttributes, KeepsOpenMarks};
-ghost use Rattle.vlog_lexer.specs.Tokens.{IsOneFault, IsOneTokenList, IsOrdered, IsTokensOrFault};
+ghost use Rattle.vlog_tokens.specs.Attributes.{DropsAttributes, KeepsOpenMarks};
+ghost use Rattle.vlog_tokens.specs.Tokens.{IsOneTokenList, IsOrdered};
+ghost use Rattle.vlog_lexer.specs.Faults.{IsOneFault, IsTokensOrFault};
 
 /// A source has one list of tokens at most.
 pub fn one_token_list()

@@ -1,17 +1,18 @@
 //! `lex`, and what it gives.
 ghost use Rattle.std.specs.Prelude.{◌≡◌, ◌⊎◌, List, IfErr, IfOk, length};
-ghost use Rattle.vlog_lexer.specs.Tokens.{AreTokens, FailsAt, fault_of};
-ghost use Rattle.vlog_lexer.specs.Toks.{Tok, toks};
+ghost use Rattle.vlog_tokens.specs.Tokens.{AreTokens};
+ghost use Rattle.vlog_tokens.specs.Toks.{Tok, toks};
+ghost use Rattle.vlog_lexer.specs.Faults.{FailsAt, fault_of};
 ghost use Rattle.vlog_lexer.specs.declared.fault.LexFault.{LexFault};
 ghost use Rattle.vlog_lexer.specs.declared.fault.LexFault.TheVariants.{Memory};
 
 use crate::fault::LexFault;
 use crate::form::piece_end;
 use crate::kept::Kept;
-use crate::row::{Row, row_at};
-use crate::token::{Token, TokenKind};
+use crate::row::row_at;
 use std::alloc::Global;
 use std::marker::Model;
+use vlog_tokens::{Row, Token, TokenKind};
 
 /// The tokens of a source, in order, seen by contracts as their list and the source's length.
 #[derive(Drop)]
@@ -21,7 +22,7 @@ pub struct Tokens<'a> {
 }
 
 impl<'a> Model for Tokens<'a> {
-    ghost use Rattle.vlog_lexer.specs.Toks.{Lexed, toks};
+    ghost use Rattle.vlog_tokens.specs.Toks.{Lexed, toks};
 
     ghost Value = { Lexed };
 

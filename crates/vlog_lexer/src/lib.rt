@@ -10,11 +10,10 @@ pub mod laws;
 mod lexer;
 mod row;
 mod table;
-mod token;
 
 pub use fault::LexFault;
 pub use lexer::{Tokens, lex};
-pub use token::{Token, TokenKind};
+pub use vlog_tokens::{Token, TokenKind};
 
 #[cfg(test)]
 mod tests;

@@ -1,19 +1,10 @@
 //! What a place of a source begins, told by its first two bytes.
 ghost use Rattle.std.specs.Prelude.{◌≡◌, ◌<◌, length, slice_index};
-ghost use Rattle.vlog_lexer.specs.Rows.{kind_of, row_at, row_of};
+ghost use Rattle.vlog_tokens.specs.Rows.{kind_of, row_at, row_of};
 
 use crate::class::is_blank;
-use crate::token::TokenKind;
+use vlog_tokens::{Row, TokenKind};
 use vlog_words::is_word_start;
-
-#[derive(Clone, Copy)]
-pub enum Row {
-    Space,
-    LineComment,
-    BlockComment,
-    Directive,
-    Token(TokenKind),
-}
 
 /// What the place begins.
 pub fn row_at(source: &[u8], at: usize) -> Row

@@ -1,22 +1,8 @@
-//! The tables of marks and of directives.
+//! Whether a text stands in the tables of marks and of directives.
 ghost use Rattle.std.specs.Prelude.{◌↔◌, Contains, IsTrue, map};
-ghost use Rattle.vlog_lexer.specs.Tables.{directives, marks};
+ghost use Rattle.vlog_tokens.specs.Tables.{directives, marks};
 
-/// Punctuation and operators.
-pub const MARKS: [&str; 37] = [
-    "(*", "*)", "<=", "==", "!=", "&&", "||", "~&", "~|", "~^", "^~", "(", ")", "[", "]", "{", "}",
-    ",", ";", ":", ".", "#", "@", "=", "?", "~", "!", "&", "|", "^", "<", ">", "+", "-", "*", "/",
-    "%",
-];
-
-/// The directives that make their line blank.
-pub const DIRECTIVES: [&str; 5] = [
-    "timescale",
-    "celldefine",
-    "endcelldefine",
-    "resetall",
-    "default_nettype",
-];
+use vlog_tokens::{DIRECTIVES, MARKS};
 
 /// Whether the text is a mark.
 pub fn is_mark(text: &[u8]) -> bool

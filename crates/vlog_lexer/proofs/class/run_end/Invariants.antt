@@ -1,5 +1,5 @@
 use Rattle.std.proofs.Common.{◌≡◌, ◌-◌, ◌<◌, ◌≤◌, ℕ, length, get_or, true}
-use Rattle.vlog_lexer.specs.Classes.{is_in}
+use Rattle.vlog_tokens.specs.Classes.{is_in}
 use Rattle.vlog_lexer.proofs.class.run_end.Given as goal
 
 abbrev pub invariant-loop-to : goal.invariant-loop-to

@@ -1,5 +1,5 @@
 use Rattle.std.proofs.Common.{◌-◌, ◌<◌, ◌≤◌, ℕ, length}
-use Rattle.vlog_lexer.specs.Comments.{IsClose}
+use Rattle.vlog_tokens.specs.Comments.{IsClose}
 use Rattle.vlog_lexer.proofs.form.close_end.Given as goal
 
 abbrev pub invariant-loop-at : goal.invariant-loop-at

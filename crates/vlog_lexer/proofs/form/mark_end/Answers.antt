@@ -1,7 +1,7 @@
 use Rattle.std.proofs.Common.{◌≤◌, ◌+◌, length, arith, sym, ◌∙◌}
 use Rattle.std.specs.List.{Contains, slice_range}
 use Rattle.std.proofs.lemmas.Bool.{false≢true}
-use Rattle.vlog_lexer.specs.Tables.{marks}
+use Rattle.vlog_tokens.specs.Tables.{marks}
 use Rattle.vlog_lexer.proofs.MarkLemmas.{no_bytes, one_byte, two_bytes}
 use Rattle.vlog_lexer.proofs.form.mark_end.Goals as goal
 use Rattle.vlog_lexer.proofs.form.mark_end.Goals.{else-at-source-via-then-at-source+else-is_mark, else-at-source-via-else-at-source}

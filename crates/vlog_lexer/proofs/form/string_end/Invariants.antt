@@ -1,5 +1,5 @@
 use Rattle.std.proofs.Common.{◌≡◌, ◌+◌, ◌-◌, ◌<◌, ◌≤◌, ℕ, length, get_or, false}
-use Rattle.vlog_lexer.specs.Strings.{is_quote, is_taken}
+use Rattle.vlog_tokens.specs.Strings.{is_quote, is_taken}
 use Rattle.vlog_lexer.proofs.form.string_end.Given as goal
 
 abbrev pub invariant-loop-at : goal.invariant-loop-at

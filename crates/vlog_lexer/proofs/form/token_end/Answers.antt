@@ -1,6 +1,6 @@
 use Rattle.std.proofs.Common.{ℕ, IfNone, subst, sym}
-use Rattle.vlog_lexer.specs.Forms.{IsToken}
-use Rattle.vlog_lexer.specs.declared.token.TokenKind.{TokenKind}
+use Rattle.vlog_tokens.specs.Forms.{IsToken}
+use Rattle.vlog_tokens.specs.declared.token.TokenKind.{TokenKind}
 use Rattle.vlog_lexer.proofs.form.token_end.Goals as goal
 
 pub returns-in-Mark-clause-none : goal.returns-in-Mark-clause-none

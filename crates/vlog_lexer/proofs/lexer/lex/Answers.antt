@@ -1,6 +1,7 @@
 use Rattle.std.proofs.Common.{inl, List, length, Ok, Err, ap, refl}
-use Rattle.vlog_lexer.specs.Tokens.{AreTokens, FailsAt}
-use Rattle.vlog_lexer.specs.Toks.{Tok, toks}
+use Rattle.vlog_tokens.specs.Tokens.{AreTokens}
+use Rattle.vlog_tokens.specs.Toks.{Tok, toks}
+use Rattle.vlog_lexer.specs.Faults.{FailsAt}
 use Rattle.vlog_lexer.specs.declared.fault.LexFault.{LexFault}
 use Rattle.vlog_lexer.proofs.PieceLemmas.{stands_last, stands_next, stands_nowhere}
 use Rattle.vlog_lexer.proofs.UniqueLemmas.{list_or_fault, one_list, one_place}

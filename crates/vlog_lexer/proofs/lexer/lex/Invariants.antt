@@ -1,5 +1,5 @@
 use Rattle.std.proofs.Common.{◌-◌, length}
-use Rattle.vlog_lexer.specs.Toks.{toks}
+use Rattle.vlog_tokens.specs.Toks.{toks}
 use Rattle.vlog_lexer.proofs.PieceLemmas.{Stands}
 use Rattle.vlog_lexer.proofs.lexer.lex.Given as goal
 

@@ -1,4 +1,4 @@
-use Rattle.vlog_lexer.specs.Tables.{directives}
+use Rattle.vlog_tokens.specs.Tables.{directives}
 use Rattle.vlog_lexer.proofs.table.is_directive.Goals as goal
 
 pub returns : goal.returns

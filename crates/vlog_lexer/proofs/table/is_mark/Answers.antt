@@ -1,4 +1,4 @@
-use Rattle.vlog_lexer.specs.Tables.{marks}
+use Rattle.vlog_tokens.specs.Tables.{marks}
 use Rattle.vlog_lexer.proofs.table.is_mark.Goals as goal
 
 pub returns : goal.returns

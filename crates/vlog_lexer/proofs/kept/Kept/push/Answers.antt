@@ -1,7 +1,7 @@
 use Rattle.std.proofs.Common.{◌≡◌, ◌++◌, ◌∷◌, [], List, None, ap, sym, subst, ◌∙◌, take, Option, ℕ}
 use Rattle.std.proofs.lemmas.List.{map_push, take-map}
+use Rattle.vlog_tokens.specs.Toks.{Tok, tok_of, toks}
 use Rattle.vlog_lexer.specs.Leaves.{Leaves}
-use Rattle.vlog_lexer.specs.Toks.{Tok, tok_of, toks}
 use Rattle.vlog_lexer.proofs.AttributeLemmas.{leaves_close, leaves_more}
 use Rattle.vlog_lexer.proofs.kept.Kept.push.Goals as goal
 

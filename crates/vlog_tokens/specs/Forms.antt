@@ -1,17 +1,17 @@
 -- The forms of what is blank and of tokens, between two places of a source.
 use Rattle.std.specs.Prelude.{◌≡◌, ◌≢◌, ℕ, ◌+◌, ◌<◌, ◌≤◌, ◌==◌, ◌||◌, true, List, length, slice_index, slice_range, if◌then◌else◌, Option, Some, None, Contains}
-use Rattle.vlog_lexer.specs.Comments.{IsFirstClose}
-use Rattle.vlog_lexer.specs.Classes.{is_space}
-use Rattle.vlog_lexer.specs.Rows.{row_at}
-use Rattle.vlog_lexer.specs.Runs.{IsRun}
-use Rattle.vlog_lexer.specs.Strings.{IsString}
-use Rattle.vlog_lexer.specs.Tables.{marks, directives}
-use Rattle.vlog_lexer.specs.declared.class.Class.{Class}
-use Rattle.vlog_lexer.specs.declared.class.Class.TheVariants.{SpaceByte, WordByte, LineByte, NameByte, DecimalByte, BinaryDigit, OctalDigit, DecimalDigit, HexDigit}
-use Rattle.vlog_lexer.specs.declared.row.Row.{Row}
-use Rattle.vlog_lexer.specs.declared.row.Row.TheVariants.{Space, LineComment, BlockComment, Directive, Token}
-use Rattle.vlog_lexer.specs.declared.token.TokenKind.{TokenKind}
-use Rattle.vlog_lexer.specs.declared.token.TokenKind.TheVariants.{Word, Escaped, System, Decimal, Based, Text, Mark}
+use Rattle.vlog_tokens.specs.Comments.{IsFirstClose}
+use Rattle.vlog_tokens.specs.Classes.{is_space}
+use Rattle.vlog_tokens.specs.Rows.{row_at}
+use Rattle.vlog_tokens.specs.Runs.{IsRun}
+use Rattle.vlog_tokens.specs.Strings.{IsString}
+use Rattle.vlog_tokens.specs.Tables.{marks, directives}
+use Rattle.vlog_tokens.specs.declared.class.Class.{Class}
+use Rattle.vlog_tokens.specs.declared.class.Class.TheVariants.{SpaceByte, WordByte, LineByte, NameByte, DecimalByte, BinaryDigit, OctalDigit, DecimalDigit, HexDigit}
+use Rattle.vlog_tokens.specs.declared.row.Row.{Row}
+use Rattle.vlog_tokens.specs.declared.row.Row.TheVariants.{Space, LineComment, BlockComment, Directive, Token}
+use Rattle.vlog_tokens.specs.declared.token.TokenKind.{TokenKind}
+use Rattle.vlog_tokens.specs.declared.token.TokenKind.TheVariants.{Word, Escaped, System, Decimal, Based, Text, Mark}
 
 -- a backquote, one of the five words with no byte of a word after it, and the rest of the line
 pub record IsDirective (source : List ℕ) (from to : ℕ) : Type 0 where

@@ -1,6 +1,6 @@
 -- The tables of marks and of directives.
 use Rattle.std.specs.Prelude.{ℕ, List, map}
-use Rattle.vlog_lexer.specs.declared.table.TheConstants.{MARKS, DIRECTIVES}
+use Rattle.vlog_tokens.specs.declared.table.TheConstants.{MARKS, DIRECTIVES}
 
 -- punctuation and operators
 unfoldable pub marks : List (List ℕ)

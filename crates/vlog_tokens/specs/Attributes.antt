@@ -2,7 +2,7 @@
 use Rattle.std.specs.Prelude.{◌≡◌, ◌&&◌, ◌++◌, Bool, true, false, if◌then◌else◌, List, [], ◌∷◌, codes}
 use Rattle.std.specs.List.{list_any}
 use Rattle.std.specs.Str.{bytes_eq}
-use Rattle.vlog_lexer.specs.Toks.{Tok}
+use Rattle.vlog_tokens.specs.Toks.{Tok}
 
 -- the mark that opens an attribute, which no other token has as its text
 abbrev pub opens : Tok → Bool

@@ -1,7 +1,7 @@
 -- A token as contracts see it.
 use Rattle.std.specs.Prelude.{ℕ, List, map}
-use Rattle.vlog_lexer.specs.declared.token.Token.{Token}
-use Rattle.vlog_lexer.specs.declared.token.TokenKind.{TokenKind}
+use Rattle.vlog_tokens.specs.declared.token.Token.{Token}
+use Rattle.vlog_tokens.specs.declared.token.TokenKind.{TokenKind}
 
 -- a token: what it is, the byte of the source that it starts at, and its bytes
 pub record Tok : Type 0 where

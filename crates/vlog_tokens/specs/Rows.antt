@@ -2,11 +2,11 @@
 use Rattle.std.specs.Prelude.{ℕ, ◌+◌, ◌==◌, ◌&&◌, if◌then◌else◌, List, slice_index}
 use Rattle.std.specs.Char.{is_ascii_digit}
 use Rattle.vlog_words.specs.Words.{is_word_start}
-use Rattle.vlog_lexer.specs.Classes.{is_space}
-use Rattle.vlog_lexer.specs.declared.row.Row.{Row}
-use Rattle.vlog_lexer.specs.declared.row.Row.TheVariants.{Space, LineComment, BlockComment, Directive, Token}
-use Rattle.vlog_lexer.specs.declared.token.TokenKind.{TokenKind}
-use Rattle.vlog_lexer.specs.declared.token.TokenKind.TheVariants.{Word, Escaped, System, Decimal, Based, Text, Mark}
+use Rattle.vlog_tokens.specs.Classes.{is_space}
+use Rattle.vlog_tokens.specs.declared.row.Row.{Row}
+use Rattle.vlog_tokens.specs.declared.row.Row.TheVariants.{Space, LineComment, BlockComment, Directive, Token}
+use Rattle.vlog_tokens.specs.declared.token.TokenKind.{TokenKind}
+use Rattle.vlog_tokens.specs.declared.token.TokenKind.TheVariants.{Word, Escaped, System, Decimal, Based, Text, Mark}
 
 -- which token the byte begins, if it begins one
 abbrev pub kind_of : ℕ → TokenKind

@@ -1,7 +1,7 @@
 -- The longest run of bytes of a class.
 use Rattle.std.specs.Prelude.{◌≡◌, ℕ, ◌<◌, ◌≤◌, true, false, List, length, slice_index}
-use Rattle.vlog_lexer.specs.Classes.{is_in}
-use Rattle.vlog_lexer.specs.declared.class.Class.{Class}
+use Rattle.vlog_tokens.specs.Classes.{is_in}
+use Rattle.vlog_tokens.specs.declared.class.Class.{Class}
 
 -- The bytes between these places are of the class, and the next, if there is one, isn't.
 pub record IsRun (class : Class) (source : List ℕ) (from to : ℕ) : Type 0 where

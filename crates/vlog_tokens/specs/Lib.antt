@@ -1,0 +1,10 @@
+pub mod Attributes
+pub mod Classes
+pub mod Comments
+pub mod Forms
+pub mod Rows
+pub mod Runs
+pub mod Strings
+pub mod Tables
+pub mod Tokens
+pub mod Toks
