@@ -1,0 +1,13 @@
+use Rattle.std.proofs.Common.{◌≤◌, length, codes}
+use Rattle.vlog_tokens.specs.Toks.{Tok}
+use Rattle.vlog_parse.specs.Reads.{Parser, loop, one_more_after_comma, sees}
+use Rattle.vlog_parse.specs.Rules.{IsRule}
+use Rattle.vlog_parse.proofs.Loops.{GoesOn}
+use Rattle.vlog_parse.proofs.list.separated.Given as goal
+
+abbrev pub invariant-loop-cursor : goal.invariant-loop-cursor
+invariant-loop-cursor g l = (length {A = Tok} l.cursor ≤ length {A = Tok} l.initial.cursor) × ((rule : Parser g.row.T.Denot) → IsRule rule (goal.F-post g l.item)
+    → GoesOn (sees (codes ",")) (one_more_after_comma rule) (loop (sees (codes ",")) (one_more_after_comma rule) l.initial.found l.initial.cursor) l.found l.cursor)
+
+abbrev pub decreases-loop-cursor : goal.decreases-loop-cursor
+decreases-loop-cursor g l = length {A = Tok} l.cursor

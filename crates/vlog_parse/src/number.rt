@@ -1,0 +1,89 @@
+//! Numbers (IEEE 1364-2005, clause 3.5.1).
+ghost use Rattle.std.specs.Prelude.{◌<◌, length, OnOk};
+ghost use Rattle.vlog_tokens.specs.Toks.{tok_of};
+ghost use Rattle.vlog_parse.specs.Numbers as spec;
+ghost use Rattle.vlog_parse.specs.Numbers.{Means};
+ghost use Rattle.vlog_parse.specs.Reads.{Reads};
+
+use crate::based::based_row;
+use crate::cursor::Cursor;
+use crate::fault::Fault;
+use crate::row::Row;
+use bm_base::Bits;
+use std::alloc::Global;
+use vlog_tokens::{Token, TokenKind};
+
+/// A decimal by itself, a based token by itself, or a based token behind its size: its bits, the least first.
+#[tactic(auto, unfolding(crate::specs::Numbers::number))]
+pub fn number(alloc: Global, cursor: &mut Cursor<'_, '_>) -> Result<Bits, Fault>
+    ensures reads { Reads (spec.number cursor.old) result cursor.new }
+    ensures consumes { OnOk result (length cursor.new < length cursor.old) }
+{
+    if cursor.sees_based() {
+        unsized_number(alloc, cursor)
+    } else if cursor.sees_size() {
+        sized_number(alloc, cursor)
+    } else {
+        decimal_number(alloc, cursor)
+    }
+}
+
+#[tactic(auto, unfolding(crate::specs::Numbers::decimal_number))]
+fn decimal_number(alloc: Global, cursor: &mut Cursor<'_, '_>) -> Result<Bits, Fault>
+    ensures reads { Reads (spec.decimal_number cursor.old) result cursor.new }
+    ensures consumes { OnOk result (length cursor.new < length cursor.old) }
+{
+    let value = cursor.decimal()?;
+    let mut row = Row::new(alloc, 32)?;
+    row.push(value as u128, 32);
+    Ok(row.bits)
+}
+
+#[tactic(auto, unfolding(crate::specs::Numbers::unsized_number, crate::specs::Reads::take_if))]
+fn unsized_number(alloc: Global, cursor: &mut Cursor<'_, '_>) -> Result<Bits, Fault>
+    ensures reads { Reads (spec.unsized_number cursor.old) result cursor.new }
+    ensures consumes { OnOk result (length cursor.new < length cursor.old) }
+{
+    let bits = unsized_bits(alloc, cursor.peek()?)?;
+    cursor.skip();
+    Ok(bits)
+}
+
+#[tactic(auto, unfolding(crate::specs::Numbers::sized_number, crate::specs::Reads::take_if))]
+fn sized_number(alloc: Global, cursor: &mut Cursor<'_, '_>) -> Result<Bits, Fault>
+    ensures reads { Reads (spec.sized_number cursor.old) result cursor.new }
+    ensures consumes { OnOk result (length cursor.new < length cursor.old) }
+{
+    let width = cursor.count()?;
+    let bits = sized_bits(alloc, cursor.peek()?, width as usize)?;
+    cursor.skip();
+    Ok(bits)
+}
+
+#[tactic(auto, unfolding(crate::specs::Numbers::unsized_of))]
+fn unsized_bits(alloc: Global, token: Token) -> Result<Bits, Fault>
+    ensures { Means (spec.unsized_of (tok_of token.entry)) result }
+{
+    if token.kind != TokenKind::Based {
+        return Err(Fault::Token);
+    }
+    let row = based_row(alloc, token.text, 32)?;
+    if row.fits {
+        Ok(row.bits)
+    } else {
+        Err(Fault::Token)
+    }
+}
+
+#[tactic(auto, unfolding(crate::specs::Numbers::sized_of))]
+fn sized_bits(alloc: Global, token: Token, width: usize) -> Result<Bits, Fault>
+    ensures { Means (spec.sized_of width (tok_of token.entry)) result }
+{
+    if token.kind != TokenKind::Based {
+        return Err(Fault::Token);
+    }
+    Ok(based_row(alloc, token.text, width)?.bits)
+}
+
+#[cfg(test)]
+mod tests;

@@ -1,0 +1,44 @@
+//! What one token stands for.
+ghost use Rattle.std.specs.Prelude.{◌≡◌, Option, option_map};
+ghost use Rattle.vlog_tokens.specs.Toks.{tok_of};
+ghost use Rattle.vlog_tree.specs.Spelling.Parts.{terminal};
+ghost use Rattle.vlog_parse.specs.Terminals as spec;
+
+use crate::digits::decimal_at_most;
+use vlog_tokens::{Token, TokenKind};
+use vlog_words::is_reserved;
+
+/// The reserved word or mark that the token is, and nothing for any other token.
+pub fn terminal<'a>(token: Token<'a>) -> &'a [u8]
+    ensures { result.now ≡ terminal (tok_of token.entry) }
+{
+    match token.kind {
+        TokenKind::Word if is_reserved(token.text) => token.text,
+        TokenKind::Mark => token.text,
+        _ => &[],
+    }
+}
+
+/// The name that the token is: a word that is not reserved, or what follows the backslash of an escaped name.
+#[tactic(auto, unfolding(crate::specs::Terminals::name_of))]
+pub fn name_of<'a>(token: Token<'a>) -> Option<&'a [u8]>
+    ensures { option_map (λ name. name.now) result ≡ spec.name_of (tok_of token.entry) }
+{
+    match token.kind {
+        TokenKind::Word if !is_reserved(token.text) => Some(token.text),
+        TokenKind::Escaped => token.text.strip_prefix(b"\\"),
+        _ => None,
+    }
+}
+
+/// The value of the decimal that the token is, if it is one between these.
+#[tactic(auto, unfolding(crate::specs::Terminals::decimal_between))]
+pub fn decimal_between(token: Token, least: u32, most: u32) -> Option<u32>
+    ensures { result ≡ spec.decimal_between least most (tok_of token.entry) }
+{
+    if token.kind != TokenKind::Decimal {
+        return None;
+    }
+    let value = decimal_at_most(token.text, most as u128)? as u32;
+    if value < least { None } else { Some(value) }
+}

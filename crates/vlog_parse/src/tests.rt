@@ -1,0 +1,4 @@
+mod netlists;
+mod productions;
+mod tree;
+mod trees;
