@@ -1,4 +1,5 @@
 mod netlists;
 mod productions;
+mod refusals;
 mod tree;
 mod trees;

@@ -5,7 +5,7 @@ use std::test::Fail;
 use vlog_lexer::lex;
 
 // Nothing where the text spells a design, else the fault.
-fn fault(alloc: Global, source: &str) -> Result<String, Fail> {
+pub fn fault(alloc: Global, source: &str) -> Result<String, Fail> {
     let tokens = lex(alloc, source.as_bytes())?;
     match parse(alloc, &tokens) {
         Ok(_) => Ok(String::new(alloc)),
@@ -20,7 +20,9 @@ fn tree(alloc: Global, expression: &str) -> Result<String, Fail> {
     Ok(format!(in alloc; "{design:?}")?)
 }
 
-const DESIGNS: [(&str, &str); 18] = [
+// A text, and nothing where it spells a design, else the fault.
+const TEXTS: [(&str, &str); 97] = [
+    // designs, modules and headers
     ("", ""),
     ("module m; endmodule", ""),
     ("module m endmodule", "the token at byte 9 does not fit"),
@@ -66,9 +68,7 @@ const DESIGNS: [(&str, &str); 18] = [
         "module m(input [3:0) a); endmodule",
         "the token at byte 19 does not fit",
     ),
-];
-
-const ITEMS: [(&str, &str); 53] = [
+    // items and statements
     ("module m; input a; endmodule", ""),
     (
         "module m; input ; endmodule",
@@ -212,9 +212,7 @@ const ITEMS: [(&str, &str); 53] = [
         "module m; initial q <= 1'b0; endmodule",
         "the token at byte 20 does not fit",
     ),
-];
-
-const EXPRESSIONS: [(&str, &str); 26] = [
+    // expressions
     ("module m; assign x = a; endmodule", ""),
     (
         "module m; assign x = ; endmodule",
@@ -320,24 +318,8 @@ const DIFFERENT: [(&str, &str); 6] = [
 ];
 
 #[test]
-fn reads_designs_alone(rt: HostRuntime) -> Result<(), Fail> {
-    for (source, want) in DESIGNS {
-        assert_eq!(rt; fault(rt.alloc(), source)?.as_str(), want, "at {source}");
-    }
-    Ok(())
-}
-
-#[test]
-fn reads_items_alone(rt: HostRuntime) -> Result<(), Fail> {
-    for (source, want) in ITEMS {
-        assert_eq!(rt; fault(rt.alloc(), source)?.as_str(), want, "at {source}");
-    }
-    Ok(())
-}
-
-#[test]
-fn reads_expressions_alone(rt: HostRuntime) -> Result<(), Fail> {
-    for (source, want) in EXPRESSIONS {
+fn reads_each_production_alone(rt: HostRuntime) -> Result<(), Fail> {
+    for (source, want) in TEXTS {
         assert_eq!(rt; fault(rt.alloc(), source)?.as_str(), want, "at {source}");
     }
     Ok(())
