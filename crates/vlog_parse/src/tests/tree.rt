@@ -3,7 +3,7 @@ use bm_base::{Bits, Name, Range};
 use sqlite_items::{Boxed, Items};
 use std::alloc::Global;
 use std::test::Fail;
-use vlog_tree::{BinOp, Dir, Expr, GateKind, Item, Left, Link, Module, NetKind, Stmt, UnOp};
+use vlog_tree::{BinOp, Dir, Expr, Item, Left, Link, Module, NetKind, Stmt, UnOp};
 
 #[derive(Drop)]
 pub struct Tree {
@@ -11,14 +11,6 @@ pub struct Tree {
 }
 
 impl Tree {
-    pub fn list<T: Drop, const N: usize>(&self, parts: [T; N]) -> Result<Items<T>, Fail> {
-        let mut list = Items::new(self.alloc);
-        for part in parts {
-            list.push(part)?;
-        }
-        Ok(list)
-    }
-
     pub fn name(&self, text: &str) -> Result<Name, Fail> {
         Ok(Name::new(self.alloc, text.as_bytes())?)
     }
@@ -46,108 +38,120 @@ impl Tree {
         })
     }
 
-    // ---- items
+    // ---- items, each at the end of a list
 
-    pub fn input(&self, at: u64, name: &str) -> Result<Item, Fail> {
-        self.decl(at, Some(Dir::Input), NetKind::Plain, None, name)
+    pub fn input(&self, items: &mut Items<Item>, at: u64, name: &str) -> Result<(), Fail> {
+        self.decl(items, at, Some(Dir::Input), NetKind::Plain, None, name)
     }
 
-    pub fn output(&self, at: u64, name: &str) -> Result<Item, Fail> {
-        self.decl(at, Some(Dir::Output), NetKind::Plain, None, name)
+    pub fn output(&self, items: &mut Items<Item>, at: u64, name: &str) -> Result<(), Fail> {
+        self.decl(items, at, Some(Dir::Output), NetKind::Plain, None, name)
     }
 
-    pub fn wire(&self, at: u64, name: &str) -> Result<Item, Fail> {
-        self.decl(at, None, NetKind::Wire, None, name)
+    pub fn wire(&self, items: &mut Items<Item>, at: u64, name: &str) -> Result<(), Fail> {
+        self.decl(items, at, None, NetKind::Wire, None, name)
     }
 
-    pub fn reg(&self, at: u64, range: Option<Range>, name: &str) -> Result<Item, Fail> {
-        self.decl(at, None, NetKind::Reg, range, name)
+    pub fn reg(
+        &self,
+        items: &mut Items<Item>,
+        at: u64,
+        range: Option<Range>,
+        name: &str,
+    ) -> Result<(), Fail> {
+        self.decl(items, at, None, NetKind::Reg, range, name)
     }
 
     pub fn decl(
         &self,
+        items: &mut Items<Item>,
         at: u64,
         dir: Option<Dir>,
         kind: NetKind,
         range: Option<Range>,
         name: &str,
-    ) -> Result<Item, Fail> {
-        Ok(Item::Decl {
+    ) -> Result<(), Fail> {
+        let name = self.name(name)?;
+        items.push(Item::Decl {
             at,
             dir,
             kind,
             range,
-            name: self.name(name)?,
-        })
+            name,
+        })?;
+        Ok(())
     }
 
     /// An assignment to a name that stands at the assignment's own place.
-    pub fn assign(&self, at: u64, name: &str, right: Expr) -> Result<Item, Fail> {
-        Ok(Item::Assign {
-            at,
-            left: self.target(at, name)?,
-            right,
-        })
-    }
-
-    pub fn gate(
+    pub fn assign(
         &self,
+        items: &mut Items<Item>,
         at: u64,
-        kind: GateKind,
-        name: Option<&str>,
-        outs: Items<Left>,
-        ins: Items<Expr>,
-    ) -> Result<Item, Fail> {
-        let name = match name {
-            Some(text) => Some(self.name(text)?),
-            None => None,
-        };
-        Ok(Item::Gate {
-            at,
-            kind,
-            name,
-            outs,
-            ins,
-        })
+        name: &str,
+        right: Expr,
+    ) -> Result<(), Fail> {
+        let left = self.target(at, name)?;
+        items.push(Item::Assign { at, left, right })?;
+        Ok(())
     }
 
+    /// An instance with these links.
     pub fn instance(
         &self,
+        items: &mut Items<Item>,
         at: u64,
         module: &str,
         name: &str,
         links: Items<Link>,
-    ) -> Result<Item, Fail> {
-        Ok(Item::Instance {
+    ) -> Result<(), Fail> {
+        let module = self.name(module)?;
+        let name = self.name(name)?;
+        items.push(Item::Instance {
             at,
-            module: self.name(module)?,
-            name: self.name(name)?,
+            module,
+            name,
             links,
-        })
+        })?;
+        Ok(())
     }
 
-    pub fn link(&self, at: u64, port: &str, expr: Expr) -> Result<Link, Fail> {
-        Ok(Link {
-            at,
-            port: Some(self.name(port)?),
-            expr: Some(expr),
-        })
+    /// A link of a port with a name.
+    pub fn link(
+        &self,
+        links: &mut Items<Link>,
+        at: u64,
+        port: &str,
+        place: u64,
+        name: &str,
+    ) -> Result<(), Fail> {
+        let port = Some(self.name(port)?);
+        let expr = Some(self.whole(place, name)?);
+        links.push(Link { at, port, expr })?;
+        Ok(())
     }
 
-    pub fn always(&self, at: u64, clock: &str, body: Stmt) -> Result<Item, Fail> {
-        Ok(Item::Always {
-            at,
-            clock: self.name(clock)?,
-            body,
-        })
+    pub fn always(
+        &self,
+        items: &mut Items<Item>,
+        at: u64,
+        clock: &str,
+        body: Stmt,
+    ) -> Result<(), Fail> {
+        let clock = self.name(clock)?;
+        items.push(Item::Always { at, clock, body })?;
+        Ok(())
     }
 
-    pub fn initial(&self, at: u64, name: &str, value: Expr) -> Result<Item, Fail> {
-        Ok(Item::Initial {
-            at,
-            name: self.name(name)?,
-            value,
-        })
+    pub fn initial(
+        &self,
+        items: &mut Items<Item>,
+        at: u64,
+        name: &str,
+        value: Expr,
+    ) -> Result<(), Fail> {
+        let name = self.name(name)?;
+        items.push(Item::Initial { at, name, value })?;
+        Ok(())
     }
 
     // ---- statements
@@ -187,11 +191,12 @@ impl Tree {
 
     /// The bits as they are written, the least last.
     pub fn number(&self, at: u64, digits: &str) -> Result<Expr, Fail> {
+        let digits = digits.as_bytes();
         let len = digits.len();
         let mut bits = Bits::zeros(self.alloc, len)?;
-        for (i, digit) in digits.bytes().enumerate() {
-            if digit == b'1' && i < len {
-                bits.set(len - 1 - i, true);
+        for i in 0..len {
+            if i < bits.len() {
+                bits.set(i, digits[len - 1 - i] == b'1');
             }
         }
         Ok(Expr::Number { at, bits })
