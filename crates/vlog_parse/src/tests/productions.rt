@@ -1,6 +1,7 @@
 //! For each production a text that it spells and the nearest texts that it does not.
 use crate::parse;
 use std::alloc::Global;
+use std::process::Abort;
 use std::test::Fail;
 use vlog_lexer::lex;
 
@@ -20,9 +21,10 @@ fn tree(alloc: Global, expression: &str) -> Result<String, Fail> {
     Ok(format!(in alloc; "{design:?}")?)
 }
 
-// A text, and nothing where it spells a design, else the fault.
-const TEXTS: [(&str, &str); 97] = [
-    // designs, modules and headers
+// Each text stands beside nothing where it spells a design, and else beside the fault.
+
+// designs, modules and headers
+const DESIGNS: [(&str, &str); 18] = [
     ("", ""),
     ("module m; endmodule", ""),
     ("module m endmodule", "the token at byte 9 does not fit"),
@@ -68,7 +70,10 @@ const TEXTS: [(&str, &str); 97] = [
         "module m(input [3:0) a); endmodule",
         "the token at byte 19 does not fit",
     ),
-    // items and statements
+];
+
+// declarations and assignments
+const NETS: [(&str, &str); 21] = [
     ("module m; input a; endmodule", ""),
     (
         "module m; input ; endmodule",
@@ -123,6 +128,10 @@ const TEXTS: [(&str, &str); 97] = [
         "module m; assign a = b, ; endmodule",
         "the token at byte 24 does not fit",
     ),
+];
+
+// gates and instances
+const GATES: [(&str, &str); 16] = [
     ("module m; and (x, a); endmodule", ""),
     (
         "module m; and (x); endmodule",
@@ -166,6 +175,10 @@ const TEXTS: [(&str, &str); 97] = [
         "module m; f g; endmodule",
         "the token at byte 13 does not fit",
     ),
+];
+
+// processes, statements and initial values
+const STATEMENTS: [(&str, &str); 16] = [
     ("module m; always @(posedge c) q <= a; endmodule", ""),
     (
         "module m; always @(c) q <= a; endmodule",
@@ -212,7 +225,10 @@ const TEXTS: [(&str, &str); 97] = [
         "module m; initial q <= 1'b0; endmodule",
         "the token at byte 20 does not fit",
     ),
-    // expressions
+];
+
+// primaries
+const PRIMARIES: [(&str, &str); 13] = [
     ("module m; assign x = a; endmodule", ""),
     (
         "module m; assign x = ; endmodule",
@@ -244,6 +260,10 @@ const TEXTS: [(&str, &str); 97] = [
         "module m; assign x = (); endmodule",
         "the token at byte 22 does not fit",
     ),
+];
+
+// an open parenthesis, and operators
+const OPERATIONS: [(&str, &str); 13] = [
     (
         "module m; assign x = (a; endmodule",
         "the token at byte 23 does not fit",
@@ -317,12 +337,21 @@ const DIFFERENT: [(&str, &str); 6] = [
     ("&  a & b ", "& (a & b)"),
 ];
 
-#[test]
-fn reads_each_production_alone(rt: HostRuntime) -> Result<(), Fail> {
-    for (source, want) in TEXTS {
-        assert_eq!(rt; fault(rt.alloc(), source)?.as_str(), want, "at {source}");
+fn are_read(rt: &impl Abort, alloc: Global, texts: &[(&str, &str)]) -> Result<(), Fail> {
+    for (source, want) in texts {
+        assert_eq!(rt; fault(alloc, source)?.as_str(), *want, "at {source}");
     }
     Ok(())
+}
+
+#[test]
+fn reads_each_production_alone(rt: HostRuntime) -> Result<(), Fail> {
+    are_read(&rt, rt.alloc(), &DESIGNS)?;
+    are_read(&rt, rt.alloc(), &NETS)?;
+    are_read(&rt, rt.alloc(), &GATES)?;
+    are_read(&rt, rt.alloc(), &STATEMENTS)?;
+    are_read(&rt, rt.alloc(), &PRIMARIES)?;
+    are_read(&rt, rt.alloc(), &OPERATIONS)
 }
 
 #[test]
