@@ -263,7 +263,15 @@ const PRIMARIES: [(&str, &str); 13] = [
 ];
 
 // an open parenthesis, and operators
-const OPERATIONS: [(&str, &str); 13] = [
+const OPERATIONS: [(&str, &str); 18] = [
+    ("module m; assign x = a ? b : c ? d : e; endmodule", ""),
+    ("module m; assign x = a == b == c; endmodule", ""),
+    ("module m; assign x = ~ & a; endmodule", ""),
+    ("module m; assign x = & & a; endmodule", ""),
+    (
+        "module m; assign x = && a; endmodule",
+        "the token at byte 21 does not fit",
+    ),
     (
         "module m; assign x = (a; endmodule",
         "the token at byte 23 does not fit",
