@@ -79,13 +79,18 @@ fn reads_count(rt: HostRuntime) -> Result<(), Fail> {
     Ok(())
 }
 
-// `if (b & (q == 2'd0)) q <= 2'd2; else ..`
-fn jump_or(tree: &Tree, other: Stmt) -> Result<Stmt, Fail> {
+// `b & (q == 2'd0)`
+fn jumps(tree: &Tree) -> Result<Expr, Fail> {
     let zero = tree.number(151, "00")?;
     let is_zero = tree.binary(BinOp::Eq, tree.whole(146, "q")?, zero)?;
-    let jumps = tree.binary(BinOp::And, tree.whole(141, "b")?, is_zero)?;
-    let jump = tree.set(158, "q", tree.number(163, "10")?)?;
-    tree.if_else(jumps, jump, other)
+    tree.binary(BinOp::And, tree.whole(141, "b")?, is_zero)
+}
+
+// `if (b & (q == 2'd0)) q <= 2'd2; else ..`
+fn jump_or(tree: &Tree, other: Stmt) -> Result<Stmt, Fail> {
+    let two = tree.number(163, "10")?;
+    let jump = tree.set(158, "q", two)?;
+    tree.if_else(jumps(tree)?, jump, other)
 }
 
 #[test]
@@ -348,14 +353,23 @@ fn next_count(tree: &Tree) -> Result<Expr, Fail> {
     Ok(Expr::Join(parts))
 }
 
+// `rst | clr`
+fn clears(tree: &Tree) -> Result<Expr, Fail> {
+    let first = tree.whole(159, "rst")?;
+    tree.binary(BinOp::Or, first, tree.whole(165, "clr")?)
+}
+
+// `if (en) q <= ..;`
+fn counts(tree: &Tree) -> Result<Stmt, Fail> {
+    let step = tree.set(198, "q", next_count(tree)?)?;
+    tree.only_if(tree.whole(194, "en")?, step)
+}
+
 // `if (rst | clr) q <= 4'd0; else if (en) q <= ..;`
 fn counter(tree: &Tree) -> Result<Stmt, Fail> {
-    let first = tree.whole(159, "rst")?;
-    let clears = tree.binary(BinOp::Or, first, tree.whole(165, "clr")?)?;
     let cleared = tree.set(170, "q", tree.number(175, "0000")?)?;
-    let step = tree.set(198, "q", next_count(tree)?)?;
-    let counts = tree.only_if(tree.whole(194, "en")?, step)?;
-    tree.if_else(clears, cleared, counts)
+    let other = counts(tree)?;
+    tree.if_else(clears(tree)?, cleared, other)
 }
 
 fn gen_nets(tree: &Tree, items: &mut Items<Item>) -> Result<(), Fail> {
