@@ -1,8 +1,8 @@
 -- Lemmas on the conditions of the first form.
-use Rattle.std.proofs.Common.{◌≡◌, ℕ, ◌+◌, ◌<◌, List, [], ◌∷◌, ◌++◌, Bool, ◌||◌, Option, map, take, get_or, length, filter_map, ◌&&◌, true, false, IsTrue, ◌↔◌, refl, ap, ◌∙◌, sym}
+use Rattle.std.proofs.Common.{◌≡◌, ℕ, ◌+◌, ◌<◌, ◌≤◌, zero, suc, arith, drop, List, [], ◌∷◌, ◌++◌, Bool, ◌||◌, Option, map, take, get_or, length, filter_map, ◌&&◌, true, false, IsTrue, ◌↔◌, refl, ap, ◌∙◌, sym}
 use Rattle.std.specs.List.{list_any, cons_option}
 use Rattle.std.proofs.lemmas.Bool.{false≢true}
-use Rattle.bm_cli.specs.FirstForm.{AreFirstForm, is_plain_item, are_declared, are_driven, are_written, are_taken, are_reads_known, sources}
+use Rattle.bm_cli.specs.FirstForm.{AreFirstForm, Text, begin_with_ports, is_plain_item, are_declared, are_driven, are_written, are_taken, are_reads_known, sources}
 use Rattle.bm_cli.specs.TopNames.{TopNames}
 use Rattle.vlog_tree.specs.declared.item.Item.{Item}
 use Rattle.std.specs.List.{list_all}
@@ -16,6 +16,18 @@ list_any-map p f (x ∷ xs) = ap (λ b. p (f x) || b) (list_any-map p f xs)
 -- one more item is looked at
 pub filter_map-more : {X Y : Type 0} (h : X → Option Y) (xs : List X) (i : ℕ) (d : X) → i < length xs → filter_map h (take (i + 1) xs) ≡ filter_map h (take i xs) ++ cons_option (h (get_or xs i d)) []
 filter_map-more h xs i d within = ap (filter_map h) (take_more xs i d within) ∙ filter_map-append h (take i xs) (get_or xs i d ∷ [])
+
+nothing_dropped : {X : Type 0} (i : ℕ) → drop {A = X} i [] ≡ []
+nothing_dropped zero = refl
+nothing_dropped (suc i) = refl
+
+-- More ports than items are no declarations of ports.
+pub no_item_left : (ports : List Text) (items : List Item) (i : ℕ) → i < length ports → length items ≤ i → begin_with_ports (drop i ports) (drop i items) ≡ false
+no_item_left [] items i more none = absurd (omega arith)
+no_item_left (port ∷ ports) [] zero more none = refl
+no_item_left (port ∷ ports) (item ∷ items) zero more none = absurd (omega arith)
+no_item_left (port ∷ ports) [] (suc i) more none = ap (begin_with_ports (drop i ports)) (sym (nothing_dropped i)) ∙ no_item_left ports [] i (omega arith) (omega arith)
+no_item_left (port ∷ ports) (item ∷ items) (suc i) more none = no_item_left ports items i (omega arith) (omega arith)
 
 both : (a b : Bool) → (a && b) ≡ true → (a ≡ true) × (b ≡ true)
 both true b h = (refl, h)

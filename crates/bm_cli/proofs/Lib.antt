@@ -7,14 +7,10 @@ pub mod CodeLemmas
 pub mod ConditionLemmas
 pub mod CutLemmas
 pub mod DeletionLemmas
-pub mod DesignLaws
-pub mod DesignSound
+pub mod FaultLemmas
 pub mod FileLemmas
 pub mod FormLemmas
 pub mod GateLemmas
-pub mod GrammarLaws
-pub mod GrammarLemmas
-pub mod GrammarSound
 pub mod LabelLemmas
 pub mod LineLemmas
 pub mod LoopFree
@@ -42,7 +38,6 @@ pub mod SomeGates
 pub mod SpellLemmas
 pub mod StageLemmas
 pub mod StatusLemmas
-pub mod TokenLemmas
 pub mod ToldLemmas
 pub mod TopLemmas
 pub mod TurnLemmas

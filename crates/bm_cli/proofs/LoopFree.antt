@@ -11,10 +11,8 @@ use Rattle.vlog_tree.specs.declared.key.Key.{Key}
 use Rattle.vlog_tree.specs.Keys.{all_keys}
 use Rattle.vlog_tree.specs.Value.{IsLoopFree, by_driver, drives, entry, read, value}
 use Rattle.bm_cli.specs.FirstForm.{AreFirstForm, IsFirstForm, Text, declared, inputs, registers, sources, without}
-use Rattle.bm_cli.specs.Grammar.{SpellsDesign, SpellsModule}
 use Rattle.bm_cli.specs.LoopFree.{FirstFormIsLoopFree}
 use Rattle.bm_cli.specs.Means.{machine_of}
-use Rattle.bm_cli.specs.Tokens.{Tok}
 use Rattle.bm_cli.specs.TopNames.{TopNames}
 use Rattle.bm_cli.specs.Wired.{signals}
 use Rattle.bm_cli.proofs.MeaningEntries.{read_flat}
@@ -63,21 +61,11 @@ module _ (names : TopNames) (design : Design) (items : List Item) (flat : IsFlat
 
 -- ---- the design is one flat module
 
-the_top : (a b : Module) (ms : List Module) → ms ≡ a ∷ [] → ms ≡ b ∷ [] → a ≡ b
-the_top a b ms e f = cc
-
--- the flat machine of a module that is spelled
-spelled_flat : (names : TopNames) (design : Design) (ts : List Tok) (m : Module) → design.modules ≡ m ∷ [] → m.name ≡ names.top → SpellsModule ts m → AreFirstForm names m.items → IsFlat (machine_of names design) m.items
-spelled_flat names design ts m only named (word, name, opening, closing, semi, last, header, body, declared, rest, e, h1, h2, h3, ports, h4, h5, more, h6, at, called, all) form =
-    is_flat (machine_of names design) m (top_alone names design m only named)
-    (module_names m header declared rest ports all (declared_distinct names m.items form)) form.plain (declared_distinct names m.items form)
-
--- and that of a design of the first form
-pub form_flat : (names : TopNames) (design : Design) (ts : List Tok) → SpellsDesign ts design → (form : IsFirstForm names design) → IsFlat (machine_of names design) form.top.items
-form_flat names design ts (found, only, spelled) form =
-    let same : found ≡ form.top = the_top found form.top design.modules only form.only in
-    spelled_flat names design ts form.top form.only form.name.same (subst (SpellsModule ts) same spelled) form.items
+-- the flat machine of a design of the first form
+pub form_flat : (names : TopNames) (design : Design) → (form : IsFirstForm names design) → IsFlat (machine_of names design) form.top.items
+form_flat names design form =
+    is_flat (machine_of names design) form.top (top_alone names design form.top form.only form.name.same)
+    (module_names form.top form.ports (declared_distinct names form.top.items form.items)) form.items.plain (declared_distinct names form.top.items form.items)
 
 pub first_form_is_loop_free : FirstFormIsLoopFree
-first_form_is_loop_free names bytes design text =
-    loop_free names design text.form.top.items (form_flat names design text.spelled.0 text.spelled.2 text.form) text.form.items
+first_form_is_loop_free names design form = loop_free names design form.top.items (form_flat names design form) form.items

@@ -61,5 +61,5 @@ module _ (names : TopNames) (design : Design) (items : List Item) (circuit : Cir
   }
 
 pub circuit_is_machine : CircuitIsMachine
-circuit_is_machine names design ts circuit spelled form wired order =
-    is_machine names design form.top.items circuit (form_flat names design ts spelled form) form.items (subst (λ ms. IsWired names (items_of ms) circuit) form.only wired) order
+circuit_is_machine names design circuit form wired order =
+    is_machine names design form.top.items circuit (form_flat names design form) form.items (subst (λ ms. IsWired names (items_of ms) circuit) form.only wired) order

@@ -1,23 +1,23 @@
 -- The keys of a machine whose design is one flat module.
 use Rattle.std.proofs.Common.{◌≡◌, List, [], ◌∷◌, ◌++◌, Bool, true, false, not, ◌&&◌, ◌||◌, Some, None, Option, bytes_eq, filter, filter_map, find, map, flat_map, option_map, option_to_list, append-nil, refl, ap, sym, ◌∙◌, subst}
-use Rattle.std.specs.List.{list_all, list_any, range_with_len}
-use Rattle.std.proofs.lemmas.Bool.{cond-true, false_from_ne_true, not_from_false, not_from_true}
+use Rattle.std.specs.List.{cons_option, list_all, list_any, range_with_len}
+use Rattle.std.proofs.lemmas.Bool.{and_parts, cond-true, false_from_ne_true, false≢true, not_from_false, not_from_true}
 use Rattle.std.proofs.lemmas.Bool.Decides.{Decides-like, same_from_decides}
 use Rattle.std.proofs.lemmas.List.Elements.{filter_agree, filter-append, filter_map-append}
 use Rattle.std.proofs.lemmas.Slice.Eq.{bytes_eq-Decides}
 use Rattle.vlog_tree.specs.declared.design.Design.{Design}
 use Rattle.vlog_tree.specs.declared.design.Module.{Module}
 use Rattle.vlog_tree.specs.declared.item.Item.{Item}
+use Rattle.vlog_tree.specs.declared.item.Item.TheVariants.{Decl, Assign, Gate, Instance as Part, Always, Initial}
 use Rattle.vlog_tree.specs.Keys.{Instance, all_keys, input_keys, keys_of, name_keys, register_keys, same_path, top_instance}
 use Rattle.vlog_tree.specs.Machine.{Machine}
 use Rattle.vlog_tree.specs.Names as name
 use Rattle.vlog_tree.specs.Names.{declares_input, declares_register, firsts, names, width_of}
 use Rattle.vlog_tree.specs.Value.{items_at, items_in}
-use Rattle.bm_cli.specs.FirstForm.{Text, are_distinct, declared, declared_name, input_name, inputs, is_among, is_plain_item, register_name, registers, without}
-use Rattle.bm_cli.specs.Grammar.{SpellsPort, SpellsPorts}
+use Rattle.bm_cli.specs.FirstForm.{Text, are_distinct, begin_with_ports, declared, declared_name, input_name, inputs, is_among, is_plain_item, is_port, register_name, registers, without}
 use Rattle.bm_cli.specs.Means.{machine_of}
-use Rattle.bm_cli.specs.Tokens.{Tok}
 use Rattle.bm_cli.specs.TopNames.{TopNames}
+use Rattle.bm_cli.proofs.AmongLemmas.{same_text}
 use Rattle.bm_cli.proofs.MeaningItems.{declares_input_is, declares_register_is, input_declared, key, register_declared, width_one}
 use Rattle.bm_cli.proofs.MeaningNames.{distinct_apart, distinct_left, distinct_other, distinct_tail, filter_all, filter_filter, filter_none, other_name, same_name}
 use Rattle.bm_cli.proofs.MeaningParts.{any_among, filter_part}
@@ -64,21 +64,28 @@ firsts_twice xs ys d =
 
 -- ---- the names of the module
 
-port_declared : (ts : List Tok) (name : Text) (item : Item) → SpellsPort ts name item → declared_name item ≡ Some name
-port_declared ts name item (dir, word, way, e, h, k, same, also) = rw (also, same) refl
+port_declared : (port : Text) (item : Item) → is_port port item ≡ true → declared_name item ≡ Some port
+port_declared port (Decl at (Some dir) kind range name) h = ap Some (same_text name port h)
+port_declared port (Decl at None kind range name) h = absurd (false≢true h)
+port_declared port (Assign at left right) h = absurd (false≢true h)
+port_declared port (Gate at kind name outs ins) h = absurd (false≢true h)
+port_declared port (Part at definition name links) h = absurd (false≢true h)
+port_declared port (Always at clock body) h = absurd (false≢true h)
+port_declared port (Initial at name value) h = absurd (false≢true h)
 
-pub ports_declared : (ts : List Tok) (ports : List Text) (items : List Item) → SpellsPorts ts ports items → ports ≡ filter_map declared_name items
-ports_declared ts (name ∷ []) (item ∷ []) s = rw (port_declared ts name item s) refl
-ports_declared ts (name ∷ other ∷ ports) (item ∷ items) (first, comma, rest, e, s, h, ss) = rw (port_declared first name item s) (ap (λ ns. name ∷ ns) (ports_declared rest (other ∷ ports) items ss))
-ports_declared ts [] items s = absurd s
-ports_declared ts (name ∷ []) [] s = absurd s
-ports_declared ts (name ∷ []) (item ∷ other ∷ items) s = absurd s
-ports_declared ts (name ∷ other ∷ ports) [] s = absurd s
+-- the names that are declared are those of the ports, and then others
+ports_first : (ports : List Text) (items : List Item) → begin_with_ports ports items ≡ true → (others : List Text) × (declared items ≡ ports ++ others)
+ports_first [] items h = (declared items, refl)
+ports_first (port ∷ ports) [] h = absurd (false≢true h)
+ports_first (port ∷ ports) (item ∷ items) h =
+    let parts : (is_port port item ≡ true) × (begin_with_ports ports items ≡ true) = and_parts (is_port port item) (begin_with_ports ports items) h in
+    let rest : (others : List Text) × (declared items ≡ ports ++ others) = ports_first ports items parts.1 in
+    (rest.0, ap (λ name. cons_option name (declared items)) (port_declared port item parts.0) ∙ ap (λ ns. port ∷ ns) rest.1)
 
-pub module_names : (m : Module) (ts : List Tok) (header items : List Item) → SpellsPorts ts m.ports header → m.items ≡ header ++ items → are_distinct (declared m.items) ≡ true → names m ≡ declared m.items
-module_names m ts header items s e d =
-    let parts : declared m.items ≡ m.ports ++ declared items = ap declared e ∙ filter_map-append declared_name header items ∙ ap (λ ns. ns ++ declared items) (sym (ports_declared ts m.ports header s)) in
-    ap (λ ns. firsts (m.ports ++ ns)) parts ∙ firsts_twice m.ports (declared items) (subst (λ ns. are_distinct ns ≡ true) parts d) ∙ sym parts
+pub module_names : (m : Module) → begin_with_ports m.ports m.items ≡ true → are_distinct (declared m.items) ≡ true → names m ≡ declared m.items
+module_names m lead d =
+    let first : (others : List Text) × (declared m.items ≡ m.ports ++ others) = ports_first m.ports m.items lead in
+    ap (λ ns. firsts (m.ports ++ ns)) first.1 ∙ firsts_twice m.ports first.0 (subst (λ ns. are_distinct ns ≡ true) first.1 d) ∙ sym first.1
 
 module_registers : (m : Module) → names m ≡ declared m.items → list_all is_plain_item m.items ≡ true → are_distinct (declared m.items) ≡ true → name.registers m ≡ registers m.items
 module_registers m e p d =

@@ -8,14 +8,14 @@ use Rattle.bm_base.specs.Held.{Held, bytes_under}
 use Rattle.trace_rows.specs.declared.labels.Labels.{Labels}
 use Rattle.vlog_tree.specs.declared.design.Design.{Design}
 use Rattle.bm_cli.specs.Input.{IsNoWaveform, IsWaveform}
-use Rattle.bm_cli.specs.Reading.{ReadsInputs, ReadsNetlist, StopsReading}
+use Rattle.bm_cli.specs.Reading.{ReadsInputs, ReadsNetlist, StopsAtNetlist, StopsReading}
 use Rattle.bm_cli.specs.Reason.{CallCounts, ReadReason, ReadRose}
 use Rattle.bm_cli.specs.Verdict.{HasInput, HasNoWaveform, HasSomeNetlist}
 use Rattle.bm_cli.specs.Waveform.{AreWords}
 use Rattle.bm_cli.specs.Words.{Inputs}
-use Rattle.bm_cli.specs.declared.answer.Refusal.TheVariants.{WaveformForm}
+use Rattle.bm_cli.specs.declared.answer.Refusal.TheVariants.{NoViolation, NotFirstAtLast, Cut, Words, Netlist, NetlistLimit, WaveformForm, ReadFault}
 use Rattle.bm_cli.specs.declared.answer.Stop.{Stop}
-use Rattle.bm_cli.specs.declared.answer.Stop.TheVariants.{Refused}
+use Rattle.bm_cli.specs.declared.answer.Stop.TheVariants.{Refused, WriteFault, Memory}
 use Rattle.bm_cli.specs.declared.netlist.circuit.Circuit.{Circuit}
 use Rattle.bm_cli.proofs.FileLemmas.{Rose_later}
 
@@ -35,6 +35,20 @@ no_waveform : (inputs : Inputs) (held : Option Held) (circuit : Circuit) (labels
 no_waveform inputs None circuit labels read refused = tt
 no_waveform inputs (Some held) circuit labels read refused =
     (read.design, read.told, subst (λ l. IsNoWaveform l (bytes_under held inputs.waveform)) read.labelled refused)
+
+-- The netlist was not read.
+pub netlist_stopped : (inputs : Inputs) (held : Option Held) (counts : CallCounts) (stop : Stop) → StopsAtNetlist inputs.names held inputs.netlist counts.reads counts.reads_now stop
+    → ReadReason inputs held counts stop
+netlist_stopped inputs held counts (Refused (Netlist why)) stops = stops
+netlist_stopped inputs held counts (Refused NetlistLimit) stops = stops
+netlist_stopped inputs held counts (Refused ReadFault) stops = inl stops
+netlist_stopped inputs held counts Memory stops = tt
+netlist_stopped inputs held counts WriteFault stops = absurd stops
+netlist_stopped inputs held counts (Refused NoViolation) stops = absurd stops
+netlist_stopped inputs held counts (Refused NotFirstAtLast) stops = absurd stops
+netlist_stopped inputs held counts (Refused (Cut i)) stops = absurd stops
+netlist_stopped inputs held counts (Refused Words) stops = absurd stops
+netlist_stopped inputs held counts (Refused WaveformForm) stops = absurd stops
 
 -- The netlist was read, and the waveform was not.
 pub trace_stopped : (inputs : Inputs) (held mid : Option Held) (counts : CallCounts) (reads_mid : FaultCounts) (circuit : Circuit) (labels : Labels) (stop : Stop)

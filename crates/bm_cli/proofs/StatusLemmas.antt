@@ -9,10 +9,12 @@ use Rattle.bm_cli.specs.Printed.{Prints, PrintsForStatus, PrintsOutcome}
 use Rattle.bm_cli.specs.Yields.{Ends, Printed}
 use Rattle.bm_cli.specs.declared.answer.Answer.TheVariants.{Done as Succeeded, Refused as Refusing}
 use Rattle.bm_cli.specs.declared.answer.Refusal.{Refusal}
-use Rattle.bm_cli.specs.declared.answer.Refusal.TheVariants.{NoViolation, NotFirstAtLast, Cut, Words, NetlistForm, WaveformForm, ReadFault}
+use Rattle.bm_cli.specs.declared.answer.Refusal.TheVariants.{NoViolation, NotFirstAtLast, Cut, Words, Netlist, NetlistLimit, WaveformForm, ReadFault}
 use Rattle.bm_cli.specs.declared.answer.Stop.{Stop}
 use Rattle.bm_cli.specs.declared.answer.Stop.TheVariants.{Refused, WriteFault, Memory}
 use Rattle.bm_cli.specs.declared.answer.Success.{Success}
+use Rattle.bm_cli.specs.declared.netlist.fault.NetlistFault.{NetlistFault}
+use Rattle.bm_cli.specs.declared.netlist.fault.NetlistFault.TheVariants as fault
 use Rattle.bm_cli.proofs.TopLemmas.{nothing_printed}
 
 abbrev pub Outcome : Type 0
@@ -21,14 +23,14 @@ Outcome = Result Success Stop
 -- the refusal with this status, where one alone has it
 abbrev refusal_with : Status → Refusal
 refusal_with status.Words = Words
-refusal_with status.Netlist = NetlistForm
+refusal_with status.Limit = NetlistLimit
 refusal_with status.Waveform = WaveformForm
 refusal_with other = ReadFault
 
 -- One refusal alone has this status.
 abbrev is_of_one : Status → Bool
 is_of_one status.Words = true
-is_of_one status.Netlist = true
+is_of_one status.Limit = true
 is_of_one status.Waveform = true
 is_of_one status.ReadFault = true
 is_of_one other = false
@@ -37,6 +39,7 @@ abbrev is_of_some : Status → Bool
 is_of_some status.No = true
 is_of_some status.Words = true
 is_of_some status.Netlist = true
+is_of_some status.Limit = true
 is_of_some status.Waveform = true
 is_of_some status.ReadFault = true
 is_of_some other = false
@@ -46,7 +49,8 @@ its_own NoViolation one = absurd (false≢true one)
 its_own NotFirstAtLast one = absurd (false≢true one)
 its_own (Cut i) one = absurd (false≢true one)
 its_own Words one = refl
-its_own NetlistForm one = refl
+its_own (Netlist why) one = absurd (false≢true one)
+its_own NetlistLimit one = refl
 its_own WaveformForm one = refl
 its_own ReadFault one = refl
 
@@ -55,7 +59,8 @@ refuses NoViolation = refl
 refuses NotFirstAtLast = refl
 refuses (Cut i) = refl
 refuses Words = refl
-refuses NetlistForm = refl
+refuses (Netlist why) = refl
+refuses NetlistLimit = refl
 refuses WaveformForm = refl
 refuses ReadFault = refl
 
@@ -86,7 +91,8 @@ no_refusal NoViolation is = inl refl
 no_refusal NotFirstAtLast is = inr (inl refl)
 no_refusal (Cut i) is = inr (inr (i, refl))
 no_refusal Words is = absurd cc
-no_refusal NetlistForm is = absurd cc
+no_refusal (Netlist why) is = absurd cc
+no_refusal NetlistLimit is = absurd cc
 no_refusal WaveformForm is = absurd cc
 no_refusal ReadFault is = absurd cc
 
@@ -95,6 +101,26 @@ no_found (Ok made) s printing ends is = absurd (other_status status.Done NoViola
 no_found (Err (Refused refusal)) s printing ends is = no_refusal refusal (printed_as (refusal_status refusal) s printing NoViolation ends is)
 no_found (Err WriteFault) s printing ends is = absurd (other_status status.WriteFault NoViolation refl (sym ends ∙ is))
 no_found (Err Memory) s printing ends is = absurd (other_status status.Memory NoViolation refl (sym ends ∙ is))
+
+-- Status 3 comes of a refusal of NETLIST.
+abbrev pub RefusedNetlist : Outcome → Type 0
+RefusedNetlist outcome = (why : NetlistFault) × (outcome ≡ Err (Refused (Netlist why)))
+
+netlist_refusal : (refusal : Refusal) → refusal_status refusal ≡ status.Netlist → RefusedNetlist (Err (Refused refusal))
+netlist_refusal (Netlist why) is = (why, refl)
+netlist_refusal NoViolation is = absurd cc
+netlist_refusal NotFirstAtLast is = absurd cc
+netlist_refusal (Cut i) is = absurd cc
+netlist_refusal Words is = absurd cc
+netlist_refusal NetlistLimit is = absurd cc
+netlist_refusal WaveformForm is = absurd cc
+netlist_refusal ReadFault is = absurd cc
+
+pub netlist_found : (outcome : Outcome) (s : Status) (printing : Type 0) → Ends outcome s printing → s ≡ status.Netlist → RefusedNetlist outcome
+netlist_found (Ok made) s printing ends is = absurd (other_status status.Done (Netlist fault.Form) refl (printed_as status.Done s printing (Netlist fault.Form) ends is))
+netlist_found (Err (Refused refusal)) s printing ends is = netlist_refusal refusal (printed_as (refusal_status refusal) s printing (Netlist fault.Form) ends is)
+netlist_found (Err WriteFault) s printing ends is = absurd (other_status status.WriteFault (Netlist fault.Form) refl (sym ends ∙ is))
+netlist_found (Err Memory) s printing ends is = absurd (other_status status.Memory (Netlist fault.Form) refl (sym ends ∙ is))
 
 -- Status 0 comes of a success.
 pub success_found : (outcome : Outcome) (s : Status) (printing : Type 0) → Ends outcome s printing → s ≡ status.Done → (made : Success) × (outcome ≡ Ok made)
@@ -115,6 +141,18 @@ pub refusal_printed : (outcome : Outcome) (refusal : Refusal) (s : Status) (take
     → PrintsOutcome outcome s taken taken_now → GainsLine (refusal_line refusal) taken taken_now
 refusal_printed outcome refusal s taken taken_now is one prints =
     (subst (λ t. Prints (Refusing refusal) t taken taken_now) one (subst (λ o. PrintsOutcome o s taken taken_now) is prints)).1
+
+-- the same with status 3
+pub netlist_printed : (outcome : Outcome) (refusal : Refusal) (s : Status) (taken taken_now : Option (List ℕ)) → outcome ≡ Err (Refused refusal) → s ≡ status.Netlist
+    → PrintsOutcome outcome s taken taken_now → GainsLine (refusal_line refusal) taken taken_now
+netlist_printed outcome refusal s taken taken_now is three prints =
+    (subst (λ t. Prints (Refusing refusal) t taken taken_now) three (subst (λ o. PrintsOutcome o s taken taken_now) is prints)).1
+
+-- and with status 7
+pub limit_printed : (outcome : Outcome) (refusal : Refusal) (s : Status) (taken taken_now : Option (List ℕ)) → outcome ≡ Err (Refused refusal) → s ≡ status.Limit
+    → PrintsOutcome outcome s taken taken_now → GainsLine (refusal_line refusal) taken taken_now
+limit_printed outcome refusal s taken taken_now is seven prints =
+    (subst (λ t. Prints (Refusing refusal) t taken taken_now) seven (subst (λ o. PrintsOutcome o s taken taken_now) is prints)).1
 
 pub status_printed : (outcome : Outcome) (s : Status) (printing : Type 0) (taken taken_now : Option (List ℕ)) → Ends outcome s printing → PrintsOutcome outcome s taken taken_now
     → PrintsForStatus s taken taken_now

@@ -19,7 +19,7 @@ use Rattle.bm_cli.specs.Simulation.{first_bad, zeros}
 use Rattle.bm_cli.specs.Verdict.{HasNoViolation, HasViolation}
 use Rattle.bm_cli.specs.Words.{Inputs, Request}
 use Rattle.bm_cli.specs.declared.answer.Accepted.{Accepted}
-use Rattle.bm_cli.specs.declared.answer.Refusal.TheVariants.{NoViolation, NotFirstAtLast, Cut, Words, NetlistForm, WaveformForm, ReadFault}
+use Rattle.bm_cli.specs.declared.answer.Refusal.TheVariants.{NoViolation, NotFirstAtLast, Cut, Words, Netlist, NetlistLimit, WaveformForm, ReadFault}
 use Rattle.bm_cli.specs.declared.answer.Stop.{Stop}
 use Rattle.bm_cli.specs.declared.answer.Stop.TheVariants.{Refused, WriteFault, Memory}
 use Rattle.bm_cli.specs.declared.answer.Summary.{Summary}
@@ -56,7 +56,8 @@ minimise_stopped request held counts (Refused NoViolation) reason = absurd reaso
 minimise_stopped request held counts (Refused NotFirstAtLast) reason = reason
 minimise_stopped request held counts (Refused (Cut i)) reason = reason
 minimise_stopped request held counts (Refused Words) reason = reason
-minimise_stopped request held counts (Refused NetlistForm) reason = reason
+minimise_stopped request held counts (Refused (Netlist why)) reason = reason
+minimise_stopped request held counts (Refused NetlistLimit) reason = reason
 minimise_stopped request held counts (Refused WaveformForm) reason = reason
 minimise_stopped request held counts (Refused ReadFault) reason = reason
 minimise_stopped request held counts WriteFault reason = absurd reason
@@ -68,7 +69,8 @@ check_stopped inputs held counts (Refused NoViolation) reason = reason
 check_stopped inputs held counts (Refused NotFirstAtLast) reason = absurd reason
 check_stopped inputs held counts (Refused (Cut i)) reason = absurd reason
 check_stopped inputs held counts (Refused Words) reason = reason
-check_stopped inputs held counts (Refused NetlistForm) reason = reason
+check_stopped inputs held counts (Refused (Netlist why)) reason = reason
+check_stopped inputs held counts (Refused NetlistLimit) reason = reason
 check_stopped inputs held counts (Refused WaveformForm) reason = reason
 check_stopped inputs held counts (Refused ReadFault) reason = reason
 check_stopped inputs held counts WriteFault reason = reason
@@ -87,7 +89,8 @@ module _ (inputs : Inputs) (held : Option Held) (circuit : Circuit) (labels : La
       (λ wide. least_by (machine_of inputs.names read.netlist.design) circuit read.netlist.machine rows wide i ends first)
   judged counts (Err (Refused NoViolation)) none = absurd none
   judged counts (Err (Refused Words)) none = absurd none
-  judged counts (Err (Refused NetlistForm)) none = absurd none
+  judged counts (Err (Refused (Netlist why))) none = absurd none
+  judged counts (Err (Refused NetlistLimit)) none = absurd none
   judged counts (Err (Refused WaveformForm)) none = absurd none
   judged counts (Err (Refused ReadFault)) none = absurd none
   judged counts (Err WriteFault) none = absurd none

@@ -6,7 +6,7 @@ use Rattle.bm_base.specs.Held.{Held, holding}
 use Rattle.bm_base.specs.declared.status.Status.{Status}
 use Rattle.bm_base.specs.declared.status.Status.TheVariants.{Done, WriteFault, Memory}
 use Rattle.bm_cli.specs.declared.answer.Refusal.{Refusal}
-use Rattle.bm_cli.specs.declared.answer.Refusal.TheVariants.{NoViolation, NotFirstAtLast, Cut, Words, NetlistForm, WaveformForm, ReadFault}
+use Rattle.bm_cli.specs.declared.answer.Refusal.TheVariants.{NoViolation, NotFirstAtLast, Cut, Words, Netlist, NetlistLimit, WaveformForm, ReadFault}
 use Rattle.bm_cli.specs.declared.answer.Success.{Success}
 use Rattle.bm_cli.specs.declared.answer.Success.TheVariants as success
 use Rattle.bm_cli.specs.Answer.{refusal_status}
@@ -36,7 +36,8 @@ refused_leaves words NoViolation old new same = same
 refused_leaves words NotFirstAtLast old new same = same
 refused_leaves words (Cut i) old new same = same
 refused_leaves words Words old new same = same
-refused_leaves words NetlistForm old new same = same
+refused_leaves words (Netlist why) old new same = same
+refused_leaves words NetlistLimit old new same = same
 refused_leaves words WaveformForm old new same = same
 refused_leaves words ReadFault old new same = same
 

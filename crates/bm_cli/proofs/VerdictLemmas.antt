@@ -7,20 +7,21 @@ use Rattle.bm_base.specs.Held.{Held}
 use Rattle.bm_base.specs.declared.status.Status.{Status}
 use Rattle.bm_base.specs.declared.status.Status.TheVariants as status
 use Rattle.bm_cli.specs.Answer.{refusal_line, refusal_status, success_line}
-use Rattle.bm_cli.specs.Command.{AskFor, CommandReason, FailsPrinting, FailsReading, FailsReadingOf, FailsWriting, GainsLine, Holds, HoldsAsked, IsDone, LeavesShelf, MayHoldPart, SaysNo, SaysYes}
+use Rattle.bm_cli.specs.Command.{AskFor, CommandReason, FailsPrinting, FailsReading, FailsReadingOf, FailsWriting, GainsLine, Holds, HoldsAsked, IsDone, LeavesShelf, MayHoldPart, PassesLimit, RefusesNetlist, SaysNo, SaysYes}
 use Rattle.bm_cli.specs.Printed.{PrintsOutcome}
 use Rattle.bm_cli.specs.Reason.{CallCounts, Reason, WriteRose}
-use Rattle.bm_cli.specs.Verdict.{HasAccepted, HasCounted, HasCut, HasNoNetlist, HasNoViolation, HasNoWaveform, HasNotFirst, HasRejected, HasViolation}
+use Rattle.bm_cli.specs.Verdict.{HasAccepted, HasCounted, HasCut, HasLongNetlist, HasNetlistFault, HasNoViolation, HasNoWaveform, HasNotFirst, HasRejected, HasViolation}
 use Rattle.bm_cli.specs.Words.{AskNothing, Asks, Command, Inputs, Request, check, inputs_of, minimise}
 use Rattle.bm_cli.specs.Yields.{Ends, Printed, Yields}
 use Rattle.bm_cli.specs.declared.answer.Accepted.{Accepted}
 use Rattle.bm_cli.specs.declared.answer.Refusal.{Refusal}
-use Rattle.bm_cli.specs.declared.answer.Refusal.TheVariants.{NoViolation, NotFirstAtLast, Cut, Words, NetlistForm, WaveformForm, ReadFault}
+use Rattle.bm_cli.specs.declared.answer.Refusal.TheVariants.{NoViolation, NotFirstAtLast, Cut, Words, Netlist, NetlistLimit, WaveformForm, ReadFault}
 use Rattle.bm_cli.specs.declared.answer.Stop.TheVariants.{Refused, WriteFault, Memory}
 use Rattle.bm_cli.specs.declared.answer.Success.{Success}
 use Rattle.bm_cli.specs.declared.answer.Success.TheVariants as success
-use Rattle.bm_cli.proofs.StageLemmas.{Stage, either_fault, no_netlist, no_rows, not_both, read_yields, stage}
-use Rattle.bm_cli.proofs.StatusLemmas.{Outcome, SaidNo, no_found, other_status, refusal_found, refusal_printed, success_found, success_printed}
+use Rattle.bm_cli.specs.declared.netlist.fault.NetlistFault.{NetlistFault}
+use Rattle.bm_cli.proofs.StageLemmas.{Laws, Stage, either_fault, no_long, no_netlist, no_rows, not_both, read_yields, stage}
+use Rattle.bm_cli.proofs.StatusLemmas.{Outcome, SaidNo, limit_printed, netlist_found, netlist_printed, no_found, other_status, refusal_found, refusal_printed, success_found, success_printed}
 use Rattle.bm_cli.proofs.TopLemmas.{done_leaves, refusal_leaves}
 use Rattle.bm_cli.proofs.WordLemmas.{one_command}
 
@@ -54,14 +55,37 @@ module _ (words : List (List ℕ)) (held : Option Held) (counts : CallCounts) (o
   pub nothing_asked : AskNothing words → Printed status.Words s printing
   nothing_asked none = ⊎_elim (λ nothing. subst (λ o. Ends o s printing) nothing.0 ends) (λ asked. absurd (none asked.0 asked.1)) reason
 
-  pub netlist_refused : s ≡ status.Netlist → AskFor words (λ command. IfSome held (HasNoNetlist (inputs_of command)))
-  netlist_refused is =
-      let asked = asked_for (Err (Refused NetlistForm)) (refusal_found NetlistForm refl outcome s printing ends is) (λ same. cc) in
-      (asked.0, asked.1, cause asked.0 asked.2)
+  refuses_by : (inputs : Inputs) (told : Option Held) (taken taken_now : Option (List ℕ)) (why : NetlistFault) → IfSome told (λ held. HasNetlistFault inputs held why)
+      → GainsLine (refusal_line (Netlist why)) taken taken_now → IfSome told (λ held. RefusesNetlist inputs held taken taken_now)
+  refuses_by inputs None taken taken_now why applies line = tt
+  refuses_by inputs (Some told) taken taken_now why applies line = record { why = why; applies = applies; prints = line }
+
+  pub netlist_refused : (taken taken_now : Option (List ℕ)) → PrintsOutcome outcome s taken taken_now → s ≡ status.Netlist
+      → AskFor words (λ command. IfSome held (λ held. RefusesNetlist (inputs_of command) held taken taken_now))
+  netlist_refused taken taken_now prints is =
+      let found = netlist_found outcome s printing ends is in
+      let asked = asked_for (Err (Refused (Netlist found.0))) found.1 (λ same. cc) in
+      (asked.0, asked.1, refuses_by (inputs_of asked.0) held taken taken_now found.0 (cause found.0 asked.0 asked.2) (netlist_printed outcome (Netlist found.0) s taken taken_now found.1 is prints))
     where
-      cause : (command : Command) → Reason command held counts (Err (Refused NetlistForm)) → IfSome held (HasNoNetlist (inputs_of command))
-      cause (minimise request) none = none
-      cause (check inputs) none = none
+      cause : (why : NetlistFault) (command : Command) → Reason command held counts (Err (Refused (Netlist why))) → IfSome held (λ held. HasNetlistFault (inputs_of command) held why)
+      cause why (minimise request) reason = reason
+      cause why (check inputs) reason = reason
+
+  passes_by : (inputs : Inputs) (told : Option Held) (taken taken_now : Option (List ℕ)) → IfSome told (HasLongNetlist inputs) → GainsLine (refusal_line NetlistLimit) taken taken_now
+      → IfSome told (λ held. PassesLimit inputs held taken taken_now)
+  passes_by inputs None taken taken_now long line = tt
+  passes_by inputs (Some told) taken taken_now long line = record { long = long; prints = line }
+
+  pub limit_passed : (taken taken_now : Option (List ℕ)) → PrintsOutcome outcome s taken taken_now → s ≡ status.Limit
+      → AskFor words (λ command. IfSome held (λ held. PassesLimit (inputs_of command) held taken taken_now))
+  limit_passed taken taken_now prints is =
+      let found = refusal_found NetlistLimit refl outcome s printing ends is in
+      let asked = asked_for (Err (Refused NetlistLimit)) found (λ same. cc) in
+      (asked.0, asked.1, passes_by (inputs_of asked.0) held taken taken_now (cause asked.0 asked.2) (limit_printed outcome NetlistLimit s taken taken_now found is prints))
+    where
+      cause : (command : Command) → Reason command held counts (Err (Refused NetlistLimit)) → IfSome held (HasLongNetlist (inputs_of command))
+      cause (minimise request) reason = reason
+      cause (check inputs) reason = reason
 
   pub waveform_refused : s ≡ status.Waveform → AskFor words (λ command. IfSome held (HasNoWaveform (inputs_of command)))
   waveform_refused is =
@@ -143,36 +167,38 @@ caused_or expected s printing writing (inl is) = inl is
 caused_or expected s printing writing (inr (inl failed)) = inr (inl (failed.0, inl failed.1))
 caused_or expected s printing writing (inr (inr is)) = inr (inr is)
 
-pub no_violation_yields : (request : Request) (held : Held) (counts : CallCounts) (outcome : Outcome) (s : Status) (printing : Type 0)
+pub no_violation_yields : (laws : Laws) (request : Request) (held : Held) (counts : CallCounts) (outcome : Outcome) (s : Status) (printing : Type 0)
     → Reason (minimise request) (Some held) counts outcome → Ends outcome s printing → HasNoViolation request.inputs held
     → Yields status.No s (FailsReadingOf request.inputs counts.reads counts.reads_now) printing
-no_violation_yields request held counts (Ok (success.Minimised summary)) s printing reason ends none = absurd (not_both request.inputs held reason none)
-no_violation_yields request held counts (Ok (success.Accepted accepted)) s printing reason ends none = absurd reason
-no_violation_yields request held counts (Err (Refused NoViolation)) s printing reason ends none = inr ends
-no_violation_yields request held counts (Err (Refused NotFirstAtLast)) s printing reason ends none = absurd reason
-no_violation_yields request held counts (Err (Refused (Cut i))) s printing reason ends none = absurd reason
-no_violation_yields request held counts (Err (Refused Words)) s printing reason ends none = absurd reason
-no_violation_yields request held counts (Err (Refused NetlistForm)) s printing reason ends none = absurd (no_netlist request.inputs held reason none)
-no_violation_yields request held counts (Err (Refused WaveformForm)) s printing reason ends none = absurd (no_rows request.inputs held reason none)
-no_violation_yields request held counts (Err (Refused ReadFault)) s printing reason ends none = read_yields status.No s _ printing (either_fault request.inputs (Some held) counts reason) ends
-no_violation_yields request held counts (Err WriteFault) s printing reason ends none = absurd (not_both request.inputs held reason.1 none)
-no_violation_yields request held counts (Err Memory) s printing reason ends none = inr (inr (inr ends))
+no_violation_yields laws request held counts (Ok (success.Minimised summary)) s printing reason ends none = absurd (not_both laws request.inputs held reason none)
+no_violation_yields laws request held counts (Ok (success.Accepted accepted)) s printing reason ends none = absurd reason
+no_violation_yields laws request held counts (Err (Refused NoViolation)) s printing reason ends none = inr ends
+no_violation_yields laws request held counts (Err (Refused NotFirstAtLast)) s printing reason ends none = absurd reason
+no_violation_yields laws request held counts (Err (Refused (Cut i))) s printing reason ends none = absurd reason
+no_violation_yields laws request held counts (Err (Refused Words)) s printing reason ends none = absurd reason
+no_violation_yields laws request held counts (Err (Refused (Netlist why))) s printing reason ends none = absurd (no_netlist laws request.inputs held why reason none)
+no_violation_yields laws request held counts (Err (Refused NetlistLimit)) s printing reason ends none = absurd (no_long request.inputs held reason none)
+no_violation_yields laws request held counts (Err (Refused WaveformForm)) s printing reason ends none = absurd (no_rows laws request.inputs held reason none)
+no_violation_yields laws request held counts (Err (Refused ReadFault)) s printing reason ends none = read_yields status.No s _ printing (either_fault request.inputs (Some held) counts reason) ends
+no_violation_yields laws request held counts (Err WriteFault) s printing reason ends none = absurd (not_both laws request.inputs held reason.1 none)
+no_violation_yields laws request held counts (Err Memory) s printing reason ends none = inr (inr (inr ends))
 
-pub violation_yields : (request : Request) (held : Held) (counts : CallCounts) (outcome : Outcome) (s : Status) (printing : Type 0)
+pub violation_yields : (laws : Laws) (request : Request) (held : Held) (counts : CallCounts) (outcome : Outcome) (s : Status) (printing : Type 0)
     → Reason (minimise request) (Some held) counts outcome → Ends outcome s printing → HasViolation request.inputs held
     → Yields status.Done s (FailsReadingOf request.inputs counts.reads counts.reads_now) (printing ⊎ WriteRose counts request.out)
-violation_yields request held counts (Ok (success.Minimised summary)) s printing reason ends some = inr (caused_or status.Done s printing (WriteRose counts request.out) ends)
-violation_yields request held counts (Ok (success.Accepted accepted)) s printing reason ends some = absurd reason
-violation_yields request held counts (Err (Refused NoViolation)) s printing reason ends some = absurd (not_both request.inputs held some reason)
-violation_yields request held counts (Err (Refused NotFirstAtLast)) s printing reason ends some = absurd reason
-violation_yields request held counts (Err (Refused (Cut i))) s printing reason ends some = absurd reason
-violation_yields request held counts (Err (Refused Words)) s printing reason ends some = absurd reason
-violation_yields request held counts (Err (Refused NetlistForm)) s printing reason ends some = absurd (no_netlist request.inputs held reason some)
-violation_yields request held counts (Err (Refused WaveformForm)) s printing reason ends some = absurd (no_rows request.inputs held reason some)
-violation_yields request held counts (Err (Refused ReadFault)) s printing reason ends some =
+violation_yields laws request held counts (Ok (success.Minimised summary)) s printing reason ends some = inr (caused_or status.Done s printing (WriteRose counts request.out) ends)
+violation_yields laws request held counts (Ok (success.Accepted accepted)) s printing reason ends some = absurd reason
+violation_yields laws request held counts (Err (Refused NoViolation)) s printing reason ends some = absurd (not_both laws request.inputs held some reason)
+violation_yields laws request held counts (Err (Refused NotFirstAtLast)) s printing reason ends some = absurd reason
+violation_yields laws request held counts (Err (Refused (Cut i))) s printing reason ends some = absurd reason
+violation_yields laws request held counts (Err (Refused Words)) s printing reason ends some = absurd reason
+violation_yields laws request held counts (Err (Refused (Netlist why))) s printing reason ends some = absurd (no_netlist laws request.inputs held why reason some)
+violation_yields laws request held counts (Err (Refused NetlistLimit)) s printing reason ends some = absurd (no_long request.inputs held reason some)
+violation_yields laws request held counts (Err (Refused WaveformForm)) s printing reason ends some = absurd (no_rows laws request.inputs held reason some)
+violation_yields laws request held counts (Err (Refused ReadFault)) s printing reason ends some =
     read_yields status.Done s _ (printing ⊎ WriteRose counts request.out) (either_fault request.inputs (Some held) counts reason) (caused_or status.ReadFault s printing (WriteRose counts request.out) ends)
-violation_yields request held counts (Err WriteFault) s printing reason ends some = inr (inr (inl (ends, inr reason.0)))
-violation_yields request held counts (Err Memory) s printing reason ends some = inr (inr (inr ends))
+violation_yields laws request held counts (Err WriteFault) s printing reason ends some = inr (inr (inl (ends, inr reason.0)))
+violation_yields laws request held counts (Err Memory) s printing reason ends some = inr (inr (inr ends))
 
 accepted_is : (inputs : Inputs) (held : Held) (accepted : Accepted) → HasCounted inputs held accepted → HasAccepted inputs held
 accepted_is inputs held accepted (design, rows, netlist, waveform, holds) = (design, rows, netlist, waveform, holds.0)
@@ -183,35 +209,37 @@ not_first_rejects inputs held (design, rows, netlist, waveform, none) = (design,
 cut_rejects : (inputs : Inputs) (held : Held) (i : ℕ) → HasCut inputs held i → HasRejected inputs held
 cut_rejects inputs held i (design, rows, netlist, waveform, least) = (design, rows, netlist, waveform, λ accepted. accepted.no_cut i least.within least.violates)
 
-pub accepted_yields : (inputs : Inputs) (held : Held) (counts : CallCounts) (outcome : Outcome) (s : Status) (printing : Type 0)
+pub accepted_yields : (laws : Laws) (inputs : Inputs) (held : Held) (counts : CallCounts) (outcome : Outcome) (s : Status) (printing : Type 0)
     → Reason (check inputs) (Some held) counts outcome → Ends outcome s printing → HasAccepted inputs held
     → Yields status.Done s (FailsReadingOf inputs counts.reads counts.reads_now) printing
-accepted_yields inputs held counts (Ok (success.Minimised summary)) s printing reason ends some = absurd reason
-accepted_yields inputs held counts (Ok (success.Accepted accepted)) s printing reason ends some = inr ends
-accepted_yields inputs held counts (Err (Refused NoViolation)) s printing reason ends some = absurd reason
-accepted_yields inputs held counts (Err (Refused NotFirstAtLast)) s printing reason ends some = absurd (not_both inputs held some (not_first_rejects inputs held reason))
-accepted_yields inputs held counts (Err (Refused (Cut i))) s printing reason ends some = absurd (not_both inputs held some (cut_rejects inputs held i reason))
-accepted_yields inputs held counts (Err (Refused Words)) s printing reason ends some = absurd reason
-accepted_yields inputs held counts (Err (Refused NetlistForm)) s printing reason ends some = absurd (no_netlist inputs held reason some)
-accepted_yields inputs held counts (Err (Refused WaveformForm)) s printing reason ends some = absurd (no_rows inputs held reason some)
-accepted_yields inputs held counts (Err (Refused ReadFault)) s printing reason ends some = read_yields status.Done s _ printing (either_fault inputs (Some held) counts reason) ends
-accepted_yields inputs held counts (Err WriteFault) s printing reason ends some = absurd reason
-accepted_yields inputs held counts (Err Memory) s printing reason ends some = inr (inr (inr ends))
+accepted_yields laws inputs held counts (Ok (success.Minimised summary)) s printing reason ends some = absurd reason
+accepted_yields laws inputs held counts (Ok (success.Accepted accepted)) s printing reason ends some = inr ends
+accepted_yields laws inputs held counts (Err (Refused NoViolation)) s printing reason ends some = absurd reason
+accepted_yields laws inputs held counts (Err (Refused NotFirstAtLast)) s printing reason ends some = absurd (not_both laws inputs held some (not_first_rejects inputs held reason))
+accepted_yields laws inputs held counts (Err (Refused (Cut i))) s printing reason ends some = absurd (not_both laws inputs held some (cut_rejects inputs held i reason))
+accepted_yields laws inputs held counts (Err (Refused Words)) s printing reason ends some = absurd reason
+accepted_yields laws inputs held counts (Err (Refused (Netlist why))) s printing reason ends some = absurd (no_netlist laws inputs held why reason some)
+accepted_yields laws inputs held counts (Err (Refused NetlistLimit)) s printing reason ends some = absurd (no_long inputs held reason some)
+accepted_yields laws inputs held counts (Err (Refused WaveformForm)) s printing reason ends some = absurd (no_rows laws inputs held reason some)
+accepted_yields laws inputs held counts (Err (Refused ReadFault)) s printing reason ends some = read_yields status.Done s _ printing (either_fault inputs (Some held) counts reason) ends
+accepted_yields laws inputs held counts (Err WriteFault) s printing reason ends some = absurd reason
+accepted_yields laws inputs held counts (Err Memory) s printing reason ends some = inr (inr (inr ends))
 
-pub rejected_yields : (inputs : Inputs) (held : Held) (counts : CallCounts) (outcome : Outcome) (s : Status) (printing : Type 0)
+pub rejected_yields : (laws : Laws) (inputs : Inputs) (held : Held) (counts : CallCounts) (outcome : Outcome) (s : Status) (printing : Type 0)
     → Reason (check inputs) (Some held) counts outcome → Ends outcome s printing → HasRejected inputs held
     → Yields status.No s (FailsReadingOf inputs counts.reads counts.reads_now) printing
-rejected_yields inputs held counts (Ok (success.Minimised summary)) s printing reason ends none = absurd reason
-rejected_yields inputs held counts (Ok (success.Accepted accepted)) s printing reason ends none = absurd (not_both inputs held (accepted_is inputs held accepted reason) none)
-rejected_yields inputs held counts (Err (Refused NoViolation)) s printing reason ends none = absurd reason
-rejected_yields inputs held counts (Err (Refused NotFirstAtLast)) s printing reason ends none = inr ends
-rejected_yields inputs held counts (Err (Refused (Cut i))) s printing reason ends none = inr ends
-rejected_yields inputs held counts (Err (Refused Words)) s printing reason ends none = absurd reason
-rejected_yields inputs held counts (Err (Refused NetlistForm)) s printing reason ends none = absurd (no_netlist inputs held reason none)
-rejected_yields inputs held counts (Err (Refused WaveformForm)) s printing reason ends none = absurd (no_rows inputs held reason none)
-rejected_yields inputs held counts (Err (Refused ReadFault)) s printing reason ends none = read_yields status.No s _ printing (either_fault inputs (Some held) counts reason) ends
-rejected_yields inputs held counts (Err WriteFault) s printing reason ends none = absurd reason
-rejected_yields inputs held counts (Err Memory) s printing reason ends none = inr (inr (inr ends))
+rejected_yields laws inputs held counts (Ok (success.Minimised summary)) s printing reason ends none = absurd reason
+rejected_yields laws inputs held counts (Ok (success.Accepted accepted)) s printing reason ends none = absurd (not_both laws inputs held (accepted_is inputs held accepted reason) none)
+rejected_yields laws inputs held counts (Err (Refused NoViolation)) s printing reason ends none = absurd reason
+rejected_yields laws inputs held counts (Err (Refused NotFirstAtLast)) s printing reason ends none = inr ends
+rejected_yields laws inputs held counts (Err (Refused (Cut i))) s printing reason ends none = inr ends
+rejected_yields laws inputs held counts (Err (Refused Words)) s printing reason ends none = absurd reason
+rejected_yields laws inputs held counts (Err (Refused (Netlist why))) s printing reason ends none = absurd (no_netlist laws inputs held why reason none)
+rejected_yields laws inputs held counts (Err (Refused NetlistLimit)) s printing reason ends none = absurd (no_long inputs held reason none)
+rejected_yields laws inputs held counts (Err (Refused WaveformForm)) s printing reason ends none = absurd (no_rows laws inputs held reason none)
+rejected_yields laws inputs held counts (Err (Refused ReadFault)) s printing reason ends none = read_yields status.No s _ printing (either_fault inputs (Some held) counts reason) ends
+rejected_yields laws inputs held counts (Err WriteFault) s printing reason ends none = absurd reason
+rejected_yields laws inputs held counts (Err Memory) s printing reason ends none = inr (inr (inr ends))
 
 -- ---- Faults of writing and of printing.
 

@@ -7,16 +7,19 @@ use Rattle.bm_cli.specs.declared.answer.Summary.{Summary}
 use Rattle.bm_cli.specs.declared.answer.Success.{Success}
 use Rattle.bm_cli.specs.declared.answer.Success.TheVariants as success
 use Rattle.bm_cli.specs.declared.answer.Refusal.{Refusal}
-use Rattle.bm_cli.specs.declared.answer.Refusal.TheVariants.{NoViolation, NotFirstAtLast, Cut, Words, NetlistForm, WaveformForm, ReadFault}
+use Rattle.bm_cli.specs.declared.answer.Refusal.TheVariants.{NoViolation, NotFirstAtLast, Cut, Words, Netlist, NetlistLimit, WaveformForm, ReadFault}
 use Rattle.bm_cli.specs.declared.answer.Answer.{Answer}
 use Rattle.bm_cli.specs.declared.answer.Answer.TheVariants.{Done, Refused}
+use Rattle.bm_cli.specs.declared.netlist.fault.NetlistFault.{NetlistFault}
+use Rattle.bm_cli.specs.declared.netlist.fault.NetlistFault.TheVariants as fault
 
 abbrev pub refusal_status : Refusal → Status
 refusal_status NoViolation = status.No
 refusal_status NotFirstAtLast = status.No
 refusal_status (Cut cycle) = status.No
 refusal_status Words = status.Words
-refusal_status NetlistForm = status.Netlist
+refusal_status (Netlist why) = status.Netlist
+refusal_status NetlistLimit = status.Limit
 refusal_status WaveformForm = status.Waveform
 refusal_status ReadFault = status.ReadFault
 
@@ -36,12 +39,24 @@ abbrev pub success_line : Success → List ℕ
 success_line (success.Minimised summary) = summary_line summary
 success_line (success.Accepted accepted) = accepted_line accepted
 
+abbrev pub fault_line : NetlistFault → List ℕ
+fault_line (fault.BadByte at) = codes "netlist refused: L1 at " ++ decimal at ++ codes "\n"
+fault_line (fault.OpenComment at) = codes "netlist refused: L2 at " ++ decimal at ++ codes "\n"
+fault_line (fault.OpenString at) = codes "netlist refused: L3 at " ++ decimal at ++ codes "\n"
+fault_line (fault.Directive at) = codes "netlist refused: L4 at " ++ decimal at ++ codes "\n"
+fault_line (fault.Outside at) = codes "netlist refused: P1 at " ++ decimal at ++ codes "\n"
+fault_line (fault.Number at) = codes "netlist refused: P2 at " ++ decimal at ++ codes "\n"
+fault_line (fault.TooDeep at) = codes "netlist refused: P3 at " ++ decimal at ++ codes "\n"
+fault_line (fault.Syntax at) = codes "netlist refused: P4 at " ++ decimal at ++ codes "\n"
+fault_line fault.Form = codes "netlist refused: form\n"
+
 abbrev pub refusal_line : Refusal → List ℕ
 refusal_line NoViolation = codes "no violation\n"
 refusal_line NotFirstAtLast = codes "no: N1\n"
 refusal_line (Cut cycle) = codes "no: N2 cycle " ++ decimal cycle ++ codes "\n"
 refusal_line Words = codes "words refused\n"
-refusal_line NetlistForm = codes "netlist refused: form\n"
+refusal_line (Netlist why) = fault_line why
+refusal_line NetlistLimit = codes "limit: netlist 16777216\n"
 refusal_line WaveformForm = codes "waveform refused: form\n"
 refusal_line ReadFault = codes "read fault\n"
 

@@ -6,16 +6,17 @@ use Rattle.bm_base.specs.Held.{Held, holding}
 use Rattle.bm_base.specs.declared.status.Status.{Status}
 use Rattle.bm_base.specs.declared.status.Status.TheVariants.{Done, No, Words, Netlist, Waveform, ReadFault, WriteFault, Limit, Memory, Certificate}
 use Rattle.bm_cli.specs.declared.answer.Accepted.{Accepted}
-use Rattle.bm_cli.specs.declared.answer.Refusal.TheVariants.{Words as Nothing, NotFirstAtLast, Cut}
+use Rattle.bm_cli.specs.declared.answer.Refusal.TheVariants.{Words as Nothing, Netlist as BadNetlist, NetlistLimit, NotFirstAtLast, Cut}
 use Rattle.bm_cli.specs.declared.answer.Stop.{Stop}
 use Rattle.bm_cli.specs.declared.answer.Stop.TheVariants.{Refused}
 use Rattle.bm_cli.specs.declared.answer.Success.{Success}
 use Rattle.bm_cli.specs.declared.answer.Success.TheVariants as success
 use Rattle.bm_cli.specs.declared.answer.Summary.{Summary}
+use Rattle.bm_cli.specs.declared.netlist.fault.NetlistFault.{NetlistFault}
 use Rattle.bm_cli.specs.Answer.{accepted_line, refusal_line, summary_line}
 use Rattle.bm_cli.specs.Output.{HoldsOut, HoldsPart}
 use Rattle.bm_cli.specs.Reason.{CallCounts, Reason}
-use Rattle.bm_cli.specs.Verdict.{HasCounted, HasCut, HasMinimised, HasNotFirst}
+use Rattle.bm_cli.specs.Verdict.{HasCounted, HasCut, HasLongNetlist, HasMinimised, HasNetlistFault, HasNotFirst}
 use Rattle.bm_cli.specs.Words.{AskNothing, Asks, Command, Inputs, Request, check, inputs_of, minimise}
 
 -- The words ask for something of which this holds.
@@ -84,6 +85,17 @@ CommandReason words held counts outcome = ((outcome ≡ Err (Refused Nothing)) �
 -- The sink has this line more.
 abbrev pub GainsLine : List ℕ → Option (List ℕ) → Option (List ℕ) → Type 0
 GainsLine line taken taken_now = taken_now ≡ option_map (λ bytes. bytes ++ line) taken
+
+-- NETLIST is refused, and the line with the reason is printed.
+pub record RefusesNetlist (inputs : Inputs) (held : Held) (taken taken_now : Option (List ℕ)) : Type 0 where
+  pub why : NetlistFault
+  pub applies : HasNetlistFault inputs held why
+  pub prints : GainsLine (refusal_line (BadNetlist why)) taken taken_now
+
+-- NETLIST is longer than one may be, and the line that says so is printed.
+pub record PassesLimit (inputs : Inputs) (held : Held) (taken taken_now : Option (List ℕ)) : Type 0 where
+  pub long : HasLongNetlist inputs held
+  pub prints : GainsLine (refusal_line NetlistLimit) taken taken_now
 
 -- `minimise` is done: the output holds its text, nothing else has changed, and the line with its numbers is printed.
 pub record IsDone (request : Request) (held : Held) (new : Option Held) (taken taken_now : Option (List ℕ)) : Type 0 where

@@ -1,8 +1,8 @@
--- The conditions of the first form of a netlist, on a tree.
+-- The first form of a netlist, as conditions on a tree: it is the tree, places aside, of some text of the form.
 use Rattle.std.specs.Prelude.{◌≡◌, ◌==◌, List, [], ◌∷◌, ◌++◌, Bool, true, false, not, ◌&&◌, Option, Some, None, IsTrue, length, filter_map, is_none}
 use Rattle.std.specs.List.{list_all, list_any}
 use Rattle.std.specs.Str.{bytes_eq}
-use Rattle.vlog_words.specs.Words.{is_reserved_text}
+use Rattle.vlog_words.specs.Words.{is_reserved_text, is_word_text}
 use Rattle.vlog_tree.specs.declared.design.Design.{Design}
 use Rattle.vlog_tree.specs.declared.design.Module.{Module}
 use Rattle.vlog_tree.specs.declared.item.Item.{Item}
@@ -68,6 +68,22 @@ is_plain_item (Gate at kind name outs ins) = is_none name && are_gate_outs outs 
 is_plain_item (Always at clock body) = is_move body
 is_plain_item other = false
 
+-- the declaration of this port
+abbrev pub is_port : Text → Item → Bool
+is_port port (Decl at (Some dir) kind range name) = bytes_eq name port
+is_port port other = false
+
+-- no declaration of a port
+abbrev pub is_inner : Item → Bool
+is_inner (Decl at (Some dir) kind range name) = false
+is_inner other = true
+
+-- The items begin with the declarations of these ports, in their order, and no other declares a port.
+abbrev pub begin_with_ports : List Text → List Item → Bool
+begin_with_ports [] items = list_all is_inner items
+begin_with_ports (port ∷ ports) [] = false
+begin_with_ports (port ∷ ports) (item ∷ items) = is_port port item && begin_with_ports ports items
+
 abbrev pub input_name : Item → Option Text
 input_name (Decl at (Some Input) kind range name) = Some name
 input_name other = None
@@ -127,8 +143,9 @@ are_distinct (name ∷ names) = not (is_among names name) && are_distinct names
 abbrev pub are_other : Text → List Text → Bool
 are_other name names = list_all (λ other. not (bytes_eq other name)) names
 
-abbrev pub is_not_reserved : Text → Bool
-is_not_reserved name = not (is_reserved_text name)
+-- a word that is not reserved
+abbrev pub is_free : Text → Bool
+is_free name = is_word_text name && not (is_reserved_text name)
 
 -- each name is this one
 abbrev pub are_all : Text → List Text → Bool
@@ -188,11 +205,11 @@ sources clock items = without clock (inputs items) ++ registers items
 abbrev pub are_same : List Text → List Text → Bool
 are_same names others = are_among names others && are_among others names
 
--- No name is reserved.
+-- Each name is a word that is not reserved.
 abbrev pub are_free : List Text → Bool
-are_free names = list_all is_not_reserved names
+are_free names = list_all is_free names
 
--- Each name is declared once and none is reserved, the clock is an input, and the checker an output.
+-- Each name is declared once and is a word that is not reserved, the clock is an input, and the checker an output.
 abbrev pub are_declared : Text → Text → List Item → Bool
 are_declared clock check items = are_free (declared items) && are_distinct (declared items) && is_among (inputs items) clock && is_among (outputs items) check
 
@@ -217,14 +234,16 @@ pub record AreFirstForm (names : TopNames) (items : List Item) : Type 0 where
   pub reads : IsTrue (are_reads_known (sources names.clock items) items)
   pub taken : IsTrue (are_taken names.clock items)
 
--- The name is the top's, and is not reserved.
+-- The name is the top's, and is a word that is not reserved.
 pub record IsTop (name top : Text) : Type 0 where
   pub same : name ≡ top
-  pub free : is_reserved_text name ≡ false
+  pub free : IsTrue (is_free name)
 
--- There is one module, of the top's name, and its items meet the conditions.
+-- There is one module, of the top's name. Its items are the declarations of its ports, of which the clock is one, and then
+-- others, and they meet the conditions. Each name in it is then the top's or a declared one, so a word that is not reserved.
 pub record IsFirstForm (names : TopNames) (design : Design) : Type 0 where
   pub top : Module
   pub only : design.modules ≡ top ∷ []
   pub name : IsTop top.name names.top
+  pub ports : IsTrue (begin_with_ports top.ports top.items)
   pub items : AreFirstForm names top.items

@@ -1,25 +1,31 @@
--- The first forms of a netlist and a waveform, of bytes.
+-- What netlists and waveforms of the first form are, of bytes.
 use Rattle.std.specs.Prelude.{◌≡◌, ◌<◌, ◌≤◌, ℕ, List, Bool, Option, All, IfSome, length}
 use Rattle.trace_rows.specs.declared.labels.Labels.{Labels}
 use Rattle.vcd_writer.specs.Waveform.{vcd}
+use Rattle.vlog_parse.specs.Refusals.{IsInProfile}
 use Rattle.vlog_tree.specs.declared.design.Design.{Design}
+use Rattle.vlog_tree.specs.Spelling.{Spells}
 use Rattle.bm_cli.specs.FirstForm.{IsFirstForm}
 use Rattle.bm_cli.specs.Labels.{labels_of}
 use Rattle.bm_cli.specs.Means.{IsMachine, machine_of}
-use Rattle.bm_cli.specs.Spelling.{Spells}
 use Rattle.bm_cli.specs.TopNames.{TopNames}
 use Rattle.bm_cli.specs.Waveform.{AreWords}
 use Rattle.bm_cli.specs.Wired.{items_of}
 use Rattle.bm_cli.specs.declared.netlist.circuit.Circuit.{Circuit}
 
--- The bytes spell the design, and it meets the conditions.
-pub record SpellsNetlist (names : TopNames) (bytes : List ℕ) (design : Design) : Type 0 where
+-- The bytes spell the design, and their tokens have no word outside the profile, no number outside the rules and none too deep.
+pub record SpellsInProfile (bytes : List ℕ) (design : Design) : Type 0 where
   pub spelled : Spells bytes design
+  pub profile : IsInProfile spelled.tokens
+
+-- The bytes spell the design, and it is of the first form.
+pub record SpellsNetlist (names : TopNames) (bytes : List ℕ) (design : Design) : Type 0 where
+  pub text : SpellsInProfile bytes design
   pub form : IsFirstForm names design
 
 -- The bytes are a netlist of the first form, and this is its design.
 pub record IsNetlist (names : TopNames) (bytes : List ℕ) (design : Design) : Type 0 where
-  pub short : length bytes ≤ 65536
+  pub short : length bytes ≤ 16777216
   pub text : SpellsNetlist names bytes design
 
 -- the labels of a design's traces

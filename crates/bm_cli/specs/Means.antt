@@ -9,9 +9,7 @@ use Rattle.vlog_tree.specs.Step.{bad, next, start}
 use Rattle.vlog_tree.specs.Value.{IsLoopFree}
 use Rattle.bm_cli.specs.Circuit.{IsInOrder}
 use Rattle.bm_cli.specs.FirstForm.{IsFirstForm}
-use Rattle.bm_cli.specs.Grammar.{SpellsDesign}
 use Rattle.bm_cli.specs.Simulation.{check_of, checks, first_bad, state_after, zeros}
-use Rattle.bm_cli.specs.Tokens.{Tok}
 use Rattle.bm_cli.specs.TopNames.{TopNames}
 use Rattle.bm_cli.specs.Wired.{IsWired, items_of}
 use Rattle.bm_cli.specs.declared.netlist.circuit.Circuit.{Circuit}
@@ -31,8 +29,7 @@ pub record IsMachine (machine : Machine) (circuit : Circuit) : Type 0 where
 
 -- The circuit that is wired as a design of the first form says is the design's machine.
 abbrev pub CircuitIsMachine : Type 0
-CircuitIsMachine = (names : TopNames) (design : Design) (ts : List Tok) (circuit : Circuit)
-    → SpellsDesign ts design → IsFirstForm names design → IsWired names (items_of design.modules) circuit → IsInOrder circuit
+CircuitIsMachine = (names : TopNames) (design : Design) (circuit : Circuit) → IsFirstForm names design → IsWired names (items_of design.modules) circuit → IsInOrder circuit
     → IsMachine (machine_of names design) circuit
 
 -- On rows of its width, the circuit's checker has the machine's bits.

@@ -3,13 +3,13 @@ use Rattle.std.specs.Prelude.{◌⊎◌, ℕ, List, IfSome, Option, Result, Ok, 
 use Rattle.bm_base.specs.Counts.{FaultCounts, count_of, Rose}
 use Rattle.bm_base.specs.Held.{Held}
 use Rattle.bm_cli.specs.declared.answer.Accepted.{Accepted}
-use Rattle.bm_cli.specs.declared.answer.Refusal.TheVariants.{NoViolation, NotFirstAtLast, Cut, NetlistForm, WaveformForm, ReadFault}
+use Rattle.bm_cli.specs.declared.answer.Refusal.TheVariants.{NoViolation, NotFirstAtLast, Cut, Netlist, NetlistLimit, WaveformForm, ReadFault}
 use Rattle.bm_cli.specs.declared.answer.Stop.{Stop}
 use Rattle.bm_cli.specs.declared.answer.Stop.TheVariants.{Refused, WriteFault, Memory}
 use Rattle.bm_cli.specs.declared.answer.Success.{Success}
 use Rattle.bm_cli.specs.declared.answer.Success.TheVariants as success
 use Rattle.bm_cli.specs.declared.answer.Summary.{Summary}
-use Rattle.bm_cli.specs.Verdict.{HasCounted, HasCut, HasNoNetlist, HasNoViolation, HasNoWaveform, HasNotFirst, HasSomeNetlist, HasViolation}
+use Rattle.bm_cli.specs.Verdict.{HasCounted, HasCut, HasLongNetlist, HasNetlistFault, HasNoViolation, HasNoWaveform, HasNotFirst, HasSomeNetlist, HasViolation}
 use Rattle.bm_cli.specs.Words.{Command, Inputs, Request, check, minimise}
 
 -- the counts of the files before and after
@@ -29,7 +29,8 @@ WriteRose counts name = Rose (count_of counts.writes name) (count_of counts.writ
 
 -- why the reading of the two files stopped
 abbrev pub ReadReason : Inputs → Option Held → CallCounts → Stop → Type 0
-ReadReason inputs held counts (Refused NetlistForm) = IfSome held (HasNoNetlist inputs)
+ReadReason inputs held counts (Refused (Netlist why)) = IfSome held (λ held. HasNetlistFault inputs held why)
+ReadReason inputs held counts (Refused NetlistLimit) = IfSome held (HasLongNetlist inputs)
 ReadReason inputs held counts (Refused WaveformForm) = IfSome held (HasNoWaveform inputs)
 ReadReason inputs held counts (Refused ReadFault) = ReadRose counts inputs.netlist ⊎ (ReadRose counts inputs.waveform × IfSome held (HasSomeNetlist inputs))
 ReadReason inputs held counts Memory = Unit {0}

@@ -1,5 +1,5 @@
 -- What NETLIST and STIM or TRACE are, by the bytes that a shelf holds under their names.
-use Rattle.std.specs.Prelude.{◌≡◌, ℕ, List, Bool}
+use Rattle.std.specs.Prelude.{◌≡◌, ◌<◌, ◌≤◌, ℕ, List, Bool, length}
 use Rattle.bm_base.specs.Held.{Held, bytes_under}
 use Rattle.vlog_tree.specs.declared.design.Design.{Design}
 use Rattle.vlog_tree.specs.Run.{IsFirstAtLast, Violates}
@@ -8,9 +8,11 @@ use Rattle.bm_cli.specs.Counted.{accepted_of}
 use Rattle.bm_cli.specs.Input.{IsNetlist, IsNoNetlist, IsNoWaveform, IsWaveform, design_labels}
 use Rattle.bm_cli.specs.Means.{machine_of}
 use Rattle.bm_cli.specs.Minimised.{IsMinimised}
+use Rattle.bm_cli.specs.NetlistFaults.{IsNetlistFault}
 use Rattle.bm_cli.specs.Words.{Inputs}
 use Rattle.bm_cli.specs.declared.answer.Accepted.{Accepted}
 use Rattle.bm_cli.specs.declared.answer.Summary.{Summary}
+use Rattle.bm_cli.specs.declared.netlist.fault.NetlistFault.{NetlistFault}
 
 abbrev pub HasNetlist : Inputs → Held → Design → Type 0
 HasNetlist inputs held design = IsNetlist inputs.names (bytes_under held inputs.netlist) design
@@ -18,9 +20,21 @@ HasNetlist inputs held design = IsNetlist inputs.names (bytes_under held inputs.
 abbrev pub HasWaveform : Inputs → Held → Design → List (List Bool) → Type 0
 HasWaveform inputs held design rows = IsWaveform (design_labels inputs.names design) (bytes_under held inputs.waveform) rows
 
--- NETLIST is not of the first form.
+-- NETLIST is refused for this reason.
+abbrev pub HasNetlistFault : Inputs → Held → NetlistFault → Type 0
+HasNetlistFault inputs held why = IsNetlistFault inputs.names (bytes_under held inputs.netlist) why
+
+-- NETLIST is refused for some reason.
+abbrev pub HasBadNetlist : Inputs → Held → Type 0
+HasBadNetlist inputs held = (why : NetlistFault) × HasNetlistFault inputs held why
+
+-- NETLIST is no longer than one may be, and is not of the first form.
 abbrev pub HasNoNetlist : Inputs → Held → Type 0
-HasNoNetlist inputs held = IsNoNetlist inputs.names (bytes_under held inputs.netlist)
+HasNoNetlist inputs held = (length (bytes_under held inputs.netlist) ≤ 16777216) × IsNoNetlist inputs.names (bytes_under held inputs.netlist)
+
+-- NETLIST is longer than one may be.
+abbrev pub HasLongNetlist : Inputs → Held → Type 0
+HasLongNetlist inputs held = 16777216 < length (bytes_under held inputs.netlist)
 
 -- NETLIST is of the first form.
 abbrev pub HasSomeNetlist : Inputs → Held → Type 0

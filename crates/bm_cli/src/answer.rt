@@ -2,8 +2,11 @@
 ghost use Rattle.std.specs.Prelude.{◌≡◌, IfOk};
 ghost use Rattle.std.specs.String.{string_bytes};
 
+use crate::netlist::fault::NetlistFault;
 use bm_base::{NoMemory, Status};
 use std::alloc::{AllocError, AllocFailed, Global};
+use vlog_lexer::LexFault;
+use vlog_parse::ParseFault;
 
 /// What `minimise` made of a stimulus.
 #[derive(Clone, Copy, Debug, PartialEq, Eq)]
@@ -83,8 +86,10 @@ pub enum Refusal {
     Cut { cycle: usize },
     /// The words are of no command's form.
     Words,
-    /// The netlist is not of the first form.
-    NetlistForm,
+    /// The netlist is refused.
+    Netlist(NetlistFault),
+    /// The netlist is longer than one may be.
+    NetlistLimit,
     /// The waveform is not of the first form.
     WaveformForm,
     /// A file could not be read.
@@ -100,7 +105,8 @@ impl Refusal {
         match self {
             Refusal::NoViolation | Refusal::NotFirstAtLast | Refusal::Cut { .. } => Status::No,
             Refusal::Words => Status::Words,
-            Refusal::NetlistForm => Status::Netlist,
+            Refusal::Netlist(_) => Status::Netlist,
+            Refusal::NetlistLimit => Status::Limit,
             Refusal::WaveformForm => Status::Waveform,
             Refusal::ReadFault => Status::ReadFault,
         }
@@ -114,7 +120,8 @@ impl Refusal {
             Refusal::NotFirstAtLast => String::from_str(alloc, "no: N1\n"),
             Refusal::Cut { cycle } => format!(in alloc; "no: N2 cycle {cycle}\n"),
             Refusal::Words => String::from_str(alloc, "words refused\n"),
-            Refusal::NetlistForm => String::from_str(alloc, "netlist refused: form\n"),
+            Refusal::Netlist(fault) => fault.line(alloc),
+            Refusal::NetlistLimit => String::from_str(alloc, "limit: netlist 16777216\n"),
             Refusal::WaveformForm => String::from_str(alloc, "waveform refused: form\n"),
             Refusal::ReadFault => String::from_str(alloc, "read fault\n"),
         }
@@ -160,6 +167,40 @@ pub enum Stop {
     WriteFault,
     /// There is no memory.
     Memory,
+}
+
+impl From<LexFault> for Stop {
+    ghost use Rattle.std.specs.Prelude.{◌≡◌};
+    ghost use Rattle.bm_cli.specs.Reading.{stop_of_lex};
+
+    ghost from_gives = { λ fault stop. stop ≡ stop_of_lex fault };
+
+    fn from(fault: LexFault) -> Stop {
+        Stop::Refused(Refusal::Netlist(match fault {
+            LexFault::BadByte { at } => NetlistFault::BadByte { at },
+            LexFault::OpenComment { at } => NetlistFault::OpenComment { at },
+            LexFault::OpenString { at } => NetlistFault::OpenString { at },
+            LexFault::Directive { at } => NetlistFault::Directive { at },
+            LexFault::Memory => return Stop::Memory,
+        }))
+    }
+}
+
+impl From<ParseFault> for Stop {
+    ghost use Rattle.std.specs.Prelude.{◌≡◌};
+    ghost use Rattle.bm_cli.specs.Reading.{stop_of_parse};
+
+    ghost from_gives = { λ fault stop. stop ≡ stop_of_parse fault };
+
+    fn from(fault: ParseFault) -> Stop {
+        Stop::Refused(Refusal::Netlist(match fault {
+            ParseFault::Outside { at } => NetlistFault::Outside { at },
+            ParseFault::Number { at } => NetlistFault::Number { at },
+            ParseFault::TooDeep { at } => NetlistFault::TooDeep { at },
+            ParseFault::Syntax { at } => NetlistFault::Syntax { at },
+            ParseFault::Memory => return Stop::Memory,
+        }))
+    }
 }
 
 impl From<NoMemory> for Stop {

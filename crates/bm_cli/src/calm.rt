@@ -1,8 +1,8 @@
 //! The top call over a shelf and a sink that never fail.
 ghost use Rattle.std.specs.Prelude.{◌≡◌, ◌≢◌, ◌⊎◌, Some};
-ghost use Rattle.bm_cli.specs.Command.{AskFor, IsDone, LeavesShelf, SaysNo, SaysYes};
+ghost use Rattle.bm_cli.specs.Command.{AskFor, IsDone, LeavesShelf, PassesLimit, RefusesNetlist, SaysNo, SaysYes};
 ghost use Rattle.bm_cli.specs.Printed.{PrintsForStatus};
-ghost use Rattle.bm_cli.specs.Verdict.{HasAccepted, HasNoNetlist, HasNoViolation, HasNoWaveform, HasRejected, HasViolation};
+ghost use Rattle.bm_cli.specs.Verdict.{HasAccepted, HasBadNetlist, HasLongNetlist, HasNoNetlist, HasNoViolation, HasNoWaveform, HasRejected, HasViolation};
 ghost use Rattle.bm_cli.specs.Words.{AskNothing, Asks, Command, Inputs, Request, check, inputs_of, minimise, texts};
 
 use crate::run;
@@ -21,8 +21,11 @@ pub fn run_calmly(
     ensures no_write_fault { result ≢ Status.WriteFault }
     ensures words { result ≡ Status.Words → AskNothing (texts words.now) }
     ensures words_refused { AskNothing (texts words.now) → (result ≡ Status.Words) ⊎ (result ≡ Status.Memory) }
-    ensures netlist { result ≡ Status.Netlist → AskFor (texts words.now) (λ command. HasNoNetlist (inputs_of command) shelf.old) }
-    ensures netlist_refused { (command : Command) → Asks (texts words.now) command → HasNoNetlist (inputs_of command) shelf.old → (result ≡ Status.Netlist) ⊎ (result ≡ Status.Memory) }
+    ensures netlist { result ≡ Status.Netlist → AskFor (texts words.now) (λ command. RefusesNetlist (inputs_of command) shelf.old (Some out.old) (Some out.new)) }
+    ensures netlist_refused { (command : Command) → Asks (texts words.now) command → HasBadNetlist (inputs_of command) shelf.old → (result ≡ Status.Netlist) ⊎ (result ≡ Status.Memory) }
+    ensures no_netlist { (command : Command) → Asks (texts words.now) command → HasNoNetlist (inputs_of command) shelf.old → (result ≡ Status.Netlist) ⊎ (result ≡ Status.Memory) }
+    ensures limit { result ≡ Status.Limit → AskFor (texts words.now) (λ command. PassesLimit (inputs_of command) shelf.old (Some out.old) (Some out.new)) }
+    ensures limit_passed { (command : Command) → Asks (texts words.now) command → HasLongNetlist (inputs_of command) shelf.old → (result ≡ Status.Limit) ⊎ (result ≡ Status.Memory) }
     ensures waveform { result ≡ Status.Waveform → AskFor (texts words.now) (λ command. HasNoWaveform (inputs_of command) shelf.old) }
     ensures waveform_refused { (command : Command) → Asks (texts words.now) command → HasNoWaveform (inputs_of command) shelf.old → (result ≡ Status.Waveform) ⊎ (result ≡ Status.Memory) }
     ensures no_violation { (request : Request) → Asks (texts words.now) (minimise request) → result ≡ Status.No → HasNoViolation request.inputs shelf.old }

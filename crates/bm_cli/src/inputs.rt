@@ -5,8 +5,8 @@ ghost use Rattle.bm_base.specs.Held.{bytes_under};
 ghost use Rattle.bm_cli.specs.Asked.{given_inputs, names_of};
 ghost use Rattle.bm_cli.specs.Circuit.{IsInOrder};
 ghost use Rattle.bm_cli.specs.Files.{IsWithin};
-ghost use Rattle.bm_cli.specs.Input.{IsNoNetlist, IsNoWaveform, IsWaveform};
-ghost use Rattle.bm_cli.specs.Reading.{ReadsInputs, ReadsNetlist, ReadsOnly, StopsFilling, StopsReading, stop_of};
+ghost use Rattle.bm_cli.specs.Input.{IsNoWaveform, IsWaveform};
+ghost use Rattle.bm_cli.specs.Reading.{ReadsInputs, ReadsNetlist, ReadsOnly, StopsAtNetlist, StopsFilling, StopsReading, stop_of};
 ghost use Rattle.bm_cli.specs.Reason.{ReadReason};
 ghost use Rattle.bm_cli.specs.Waveform.{AreScalars, AreWords};
 
@@ -21,8 +21,8 @@ use bm_base::{Fault, Shelf};
 use std::alloc::Global;
 use trace_rows::{Labels, Trace};
 
-/// How many bytes a netlist of the first form has at most.
-const NETLIST_LIMIT: u64 = 65_536;
+/// How many bytes a netlist has at most.
+const NETLIST_LIMIT: u64 = 16_777_216;
 
 /// How many bytes a waveform of the first form has at most.
 const WAVEFORM_LIMIT: u64 = 1_048_576;
@@ -55,19 +55,15 @@ fn read_netlist<F: Shelf>(
     names: &Names,
 ) -> Result<(Circuit, Labels), Stop>
     ensures only_reads { ReadsOnly name.now (F.held shelf.old) (F.held shelf.new) (F.reads shelf.old) (F.reads shelf.new) (F.writes shelf.old) (F.writes shelf.new) }
-    ensures stops { IfErr result (StopsReading Refusal.NetlistForm name.now (F.reads shelf.old) (F.reads shelf.new)) }
+    ensures stops { IfErr result (StopsAtNetlist (names_of names.now) (F.held shelf.old) name.now (F.reads shelf.old) (F.reads shelf.new)) }
     ensures read { IfOk result (λ read. ReadsNetlist (names_of names.now) (F.held shelf.old) name.now read.0 read.1) }
-    ensures refused { result ≡ Err (Stop.Refused Refusal.NetlistForm) → IfSome (F.held shelf.old) (λ held. IsNoNetlist (names_of names.now) (bytes_under held name.now)) }
     ensures circuit { IfOk result (λ read. IsInOrder read.0) }
     ensures ports { IfOk result (λ read. AreScalars read.1.ports × (length read.1.ports ≡ read.0.inputs)) }
 {
     let Some(bytes) = read_input(alloc, shelf, name, NETLIST_LIMIT)? else {
-        return Err(Stop::Refused(Refusal::NetlistForm));
+        return Err(Stop::Refused(Refusal::NetlistLimit));
     };
-    match netlist::read(alloc, &bytes, names) {
-        Ok(read) => Ok(read),
-        Err(fault) => Err(stop(fault, Refusal::NetlistForm)),
-    }
+    netlist::read(alloc, &bytes, names)
 }
 
 fn read_trace<F: Shelf>(

@@ -3,15 +3,30 @@ ghost use Rattle.std.specs.Prelude.{◌≡◌, Bool, List};
 ghost use Rattle.bm_cli.specs.Agreement.{IsAcceptedAgain};
 ghost use Rattle.bm_cli.specs.Input.{SpellsRows};
 ghost use Rattle.bm_cli.specs.LoopFree.{FirstFormIsLoopFree};
-ghost use Rattle.bm_cli.specs.Spelling.{IsOneDesign};
+ghost use Rattle.bm_cli.specs.NetlistFaults.{IsNetlistOrFault, IsOneNetlistFault};
 ghost use Rattle.bm_cli.specs.Waveform.{AreScalars, AreWords};
 
 use trace_rows::Labels;
+use vlog_lexer::laws::{one_fault, one_token_list, tokens_or_fault};
+use vlog_parse::laws::bytes_spell_one_design;
 
-/// Bytes spell one design at most.
-pub fn bytes_spell_one_design()
-    ensures { IsOneDesign }
-{}
+/// A netlist is refused for one reason at most, but for the place of tokens that spell no design.
+pub fn one_netlist_fault()
+    ensures { IsOneNetlistFault }
+{
+    one_token_list();
+    one_fault();
+    tokens_or_fault();
+}
+
+/// A netlist of the first form is not refused: no reason applies to it.
+pub fn netlist_or_fault()
+    ensures { IsNetlistOrFault }
+{
+    one_token_list();
+    tokens_or_fault();
+    bytes_spell_one_design();
+}
 
 /// Under the same labels, whose names are words, bytes are the waveform of one list of rows at most.
 pub fn bytes_are_one_trace(labels: &Labels, bytes: &[u8])

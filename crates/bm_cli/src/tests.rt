@@ -2,6 +2,7 @@
 mod check;
 mod checker_bits;
 mod meaning;
+mod netlists;
 mod refusals;
 
 use crate::run;

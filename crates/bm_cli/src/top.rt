@@ -3,18 +3,20 @@ ghost use Rattle.std.specs.Prelude.{◌≡◌, ◌⊎◌, IfOk, IfSome, OnErr, S
 ghost use Rattle.bm_base.specs.Counts.{Rose, count_of};
 ghost use Rattle.bm_base.specs.Held.{Held};
 ghost use Rattle.bm_cli.specs.Answer.{status_of};
-ghost use Rattle.bm_cli.specs.Command.{AskFor, CommandReason, FailsPrinting, FailsReading, FailsReadingOf, FailsWriting, HoldsAsked, IsDone, LeavesShelf, MayHoldPart, SaysNo, SaysYes};
+ghost use Rattle.bm_cli.specs.Command.{AskFor, CommandReason, FailsPrinting, FailsReading, FailsReadingOf, FailsWriting, HoldsAsked, IsDone, LeavesShelf, MayHoldPart, PassesLimit, RefusesNetlist, SaysNo, SaysYes};
 ghost use Rattle.bm_cli.specs.Printed.{Prints, PrintsForStatus, PrintsOutcome};
-ghost use Rattle.bm_cli.specs.Verdict.{HasAccepted, HasNoNetlist, HasNoViolation, HasNoWaveform, HasRejected, HasViolation};
+ghost use Rattle.bm_cli.specs.Verdict.{HasAccepted, HasBadNetlist, HasLongNetlist, HasNoNetlist, HasNoViolation, HasNoWaveform, HasRejected, HasViolation};
 ghost use Rattle.bm_cli.specs.Words.{AskNothing, Asks, Command, Inputs, Request, check, inputs_of, minimise, texts};
 ghost use Rattle.bm_cli.specs.Yields.{Ends, Printed, Yields};
 
 use crate::answer::{Answer, Refusal, Stop, Success};
 use crate::check::check;
+use crate::laws::netlist_or_fault;
 use crate::minimise::minimise;
 use crate::words::{Asked, read_words};
 use bm_base::{Fault, Shelf, Sink, Status};
 use std::alloc::Global;
+use vlog_parse::laws::bytes_spell_one_design;
 
 /// Does what the words ask for, the program's name being the first of them, and prints its line.
 pub fn run<F: Shelf, S: Sink>(alloc: Global, words: &[String], shelf: &mut F, out: &mut S) -> Status
@@ -22,10 +24,18 @@ pub fn run<F: Shelf, S: Sink>(alloc: Global, words: &[String], shelf: &mut F, ou
     ensures words { result ≡ Status.Words → AskNothing (texts words.now) }
     ensures words_refused { AskNothing (texts words.now) → Printed Status.Words result (Rose (S.faults out.old) (S.faults out.new)) }
 
-    // Status 3 comes exactly where NETLIST is not of the first form.
-    ensures netlist { result ≡ Status.Netlist → AskFor (texts words.now) (λ command. IfSome (F.held shelf.old) (HasNoNetlist (inputs_of command))) }
-    ensures netlist_refused { (command : Command) (held : Held) → Asks (texts words.now) command → F.held shelf.old ≡ Some held → HasNoNetlist (inputs_of command) held →
+    // Status 3 comes exactly where NETLIST is refused, and the line has the reason. Then NETLIST is not of the first form;
+    // and where it is not, though no longer than it may be, it is refused.
+    ensures netlist { result ≡ Status.Netlist → AskFor (texts words.now) (λ command. IfSome (F.held shelf.old) (λ held. RefusesNetlist (inputs_of command) held (S.taken out.old) (S.taken out.new))) }
+    ensures netlist_refused { (command : Command) (held : Held) → Asks (texts words.now) command → F.held shelf.old ≡ Some held → HasBadNetlist (inputs_of command) held →
         Yields Status.Netlist result (Rose (count_of (F.reads shelf.old) (inputs_of command).netlist) (count_of (F.reads shelf.new) (inputs_of command).netlist)) (Rose (S.faults out.old) (S.faults out.new)) }
+    ensures no_netlist { (command : Command) (held : Held) → Asks (texts words.now) command → F.held shelf.old ≡ Some held → HasNoNetlist (inputs_of command) held →
+        Yields Status.Netlist result (Rose (count_of (F.reads shelf.old) (inputs_of command).netlist) (count_of (F.reads shelf.new) (inputs_of command).netlist)) (Rose (S.faults out.old) (S.faults out.new)) }
+
+    // Status 7 comes exactly where NETLIST is longer than it may be.
+    ensures limit { result ≡ Status.Limit → AskFor (texts words.now) (λ command. IfSome (F.held shelf.old) (λ held. PassesLimit (inputs_of command) held (S.taken out.old) (S.taken out.new))) }
+    ensures limit_passed { (command : Command) (held : Held) → Asks (texts words.now) command → F.held shelf.old ≡ Some held → HasLongNetlist (inputs_of command) held →
+        Yields Status.Limit result (Rose (count_of (F.reads shelf.old) (inputs_of command).netlist) (count_of (F.reads shelf.new) (inputs_of command).netlist)) (Rose (S.faults out.old) (S.faults out.new)) }
 
     // Status 4 comes exactly where NETLIST is of the first form, and STIM or TRACE is not.
     ensures waveform { result ≡ Status.Waveform → AskFor (texts words.now) (λ command. IfSome (F.held shelf.old) (HasNoWaveform (inputs_of command))) }
@@ -65,6 +75,8 @@ pub fn run<F: Shelf, S: Sink>(alloc: Global, words: &[String], shelf: &mut F, ou
     ensures shelf { LeavesShelf (texts words.now) result (F.held shelf.old) (F.held shelf.new) }
     ensures printed { PrintsForStatus result (S.taken out.old) (S.taken out.new) }
 {
+    bytes_spell_one_design();
+    netlist_or_fault();
     let outcome = obey(alloc, words, shelf);
     finish(alloc, outcome, out)
 }

@@ -5,7 +5,7 @@ ghost use Rattle.std.specs.Str.{bytes_eq};
 ghost use Rattle.std.specs.Option.{option_copied};
 ghost use Rattle.bm_cli.specs.Asked.{names_of};
 ghost use Rattle.bm_cli.specs.Roles.{name_in, shown};
-ghost use Rattle.bm_cli.specs.FirstForm.{is_plain_item, is_plain_kind, are_gate_outs, are_gate_ins, is_whole_left, is_whole, is_move, declared_name, input_name, output_name, net_name, register_name, driven_name, written_name, taken_name, edge_name, first_left, left_name, whole_name, is_among, are_among, are_distinct, are_other, are_all, is_not_reserved, without, is_known, reads_only, are_reads_known, are_same, are_declared, are_driven, are_written, are_taken, sources, are_free, IsTop, AreFirstForm, IsFirstForm};
+ghost use Rattle.bm_cli.specs.FirstForm.{is_plain_item, is_plain_kind, are_gate_outs, are_gate_ins, is_whole_left, is_whole, is_move, declared_name, input_name, output_name, net_name, register_name, driven_name, written_name, taken_name, edge_name, first_left, left_name, whole_name, is_among, are_among, are_distinct, are_other, are_all, is_free, is_port, is_inner, begin_with_ports, without, is_known, reads_only, are_reads_known, are_same, are_declared, are_driven, are_written, are_taken, sources, are_free, IsTop, AreFirstForm, IsFirstForm};
 ghost use Rattle.bm_cli.specs.Circuit.{AreInOrder, IsInOrder, ReadsBelow};
 ghost use Rattle.bm_cli.specs.Waveform.{AreScalars};
 ghost use Rattle.bm_cli.specs.declared.form.FormFault.TheVariants.{Form};
@@ -13,9 +13,10 @@ ghost use Rattle.vlog_tree.specs.declared.design.Module.{Module};
 
 use crate::form::FormFault;
 use crate::words::Names;
+use bm_base::Name;
 use std::alloc::{AllocError, Global};
 use vlog_tree::{Design, Dir, Expr, GateKind, Item, Left, Module, NetKind, Stmt};
-use vlog_words::is_reserved;
+use vlog_words::{is_reserved, is_word};
 
 fn only_module(design: &Design) -> Result<&Module, FormFault>
     ensures only { IfOk result (λ top. design.now.modules ≡ top.now ∷ []) }
@@ -334,10 +335,17 @@ fn are_equal(names: &[&[u8]], name: &[u8]) -> bool
     names.iter().all(|other| *other == name)
 }
 
-fn are_unreserved(names: &[&[u8]]) -> bool
-    ensures { result ≡ list_all is_not_reserved (map (λ text. text.now) names.now) }
+fn are_free(names: &[&[u8]]) -> bool
+    ensures { result ≡ list_all is_free (map (λ text. text.now) names.now) }
 {
-    names.iter().all(|name| !is_reserved(name))
+    names.iter().all(|name| is_free(name))
+}
+
+// Whether the name is a word that is not reserved.
+fn is_free(name: &[u8]) -> bool
+    ensures { result ≡ is_free name.now }
+{
+    is_word(name) && !is_reserved(name)
 }
 
 // The names that are others, in order.
@@ -453,9 +461,11 @@ pub fn form_module<'d>(
     ensures refused { IsErrOf result Form → IsFirstForm (names_of names.now) design.now → ⊥ }
 {
     let module = only_module(design)?;
+    let items = module.items.as_slice();
     let named = is_top(module.name.bytes(), names.top.as_bytes());
-    let holds = meets(alloc, module.items.as_slice(), names)?;
-    if named && holds {
+    let headed = begin_with_ports(module.ports.as_slice(), items);
+    let holds = meets(alloc, items, names)?;
+    if named && headed && holds {
         Ok(module)
     } else {
         Err(FormFault::Form)
@@ -465,7 +475,50 @@ pub fn form_module<'d>(
 fn is_top(name: &[u8], top: &[u8]) -> bool
     ensures { IsTrue result ↔ IsTop name.now top.now }
 {
-    name == top && !is_reserved(name)
+    name == top && is_free(name)
+}
+
+// Whether the items begin with the declarations of these ports, in their order, and no other declares a port.
+fn begin_with_ports(ports: &[Name], items: &[Item]) -> bool
+    ensures { result ≡ begin_with_ports ports.now items.now }
+{
+    for i in 0..ports.len() {
+        if i >= items.len() {
+            return false;
+        }
+        if !is_port(&items[i], ports[i].bytes()) {
+            return false;
+        }
+    }
+    are_inner(&items[ports.len()..])
+}
+
+fn is_port(item: &Item, port: &[u8]) -> bool
+    ensures { result ≡ is_port port.now item.now }
+{
+    match item {
+        Item::Decl {
+            dir: Some(_),
+            name,
+            ..
+        } => name.bytes() == port,
+        _ => false,
+    }
+}
+
+fn are_inner(items: &[Item]) -> bool
+    ensures { result ≡ list_all is_inner items.now }
+{
+    items.iter().all(|item| is_inner(item))
+}
+
+fn is_inner(item: &Item) -> bool
+    ensures { result ≡ is_inner item.now }
+{
+    match item {
+        Item::Decl { dir: Some(_), .. } => false,
+        _ => true,
+    }
 }
 
 fn declares_well(
@@ -491,7 +544,7 @@ fn are_ports(
 ) -> bool
     ensures { result ≡ (are_free (map (λ text. text.now) declared.now) && (are_distinct (map (λ text. text.now) declared.now) && (is_among (map (λ text. text.now) inputs.now) clock.now && is_among (map (λ text. text.now) outputs.now) check.now))) }
 {
-    are_unreserved(declared) && differ(declared) && has(inputs, clock) && has(outputs, check)
+    are_free(declared) && differ(declared) && has(inputs, clock) && has(outputs, check)
 }
 
 fn drives_well(alloc: Global, items: &[Item]) -> Result<bool, AllocError>

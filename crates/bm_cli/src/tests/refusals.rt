@@ -18,13 +18,12 @@ const SUMMARY: &str = "minimised: cycles 3 to 3, events 2 to 2, windows 0 certif
 // A text that stands once in the accepted file, and what takes its place.
 type Edit = (&'static str, &'static str);
 
-const NAMES: [Edit; 7] = [
+const NAMES: [Edit; 6] = [
     // a name declared twice
     ("reg q;", "reg q; reg q;"),
     ("input spare", "input a"),
-    // a reserved word as a name
-    ("input spare", "input assign"),
-    ("input spare", "input tri"),
+    // a reserved word as an escaped name
+    ("input spare", "input \\tri "),
     // another module's name
     ("module top", "module Top"),
     // a clock that is no input
@@ -61,25 +60,87 @@ const ROLES: [Edit; 14] = [
     ("endmodule", "always @(posedge clk) both <= a; endmodule"),
 ];
 
-const TEXTS: [Edit; 11] = [
-    // bytes after `endmodule`
-    ("endmodule", "endmodule;"),
-    ("endmodule", "endmodule endmodule"),
-    // a comment
-    ("wire both;", "wire both; // both"),
-    ("wire both;", "wire both; /* both */"),
-    // two words run together
-    ("wire both", "wireboth"),
-    ("input spare", "inputspare"),
-    ("module top", "moduletop"),
+// Trees that no text of the form spells.
+const FORMS: [Edit; 10] = [
+    // the ports in another order than their declarations
+    (
+        PORTS,
+        "(a, clk, spare, low, bad); input clk, a, spare; output low, bad; wire both;",
+    ),
+    // a port that is declared after a wire
+    (
+        PORTS,
+        "(clk, a, spare, low, bad); input clk, a; wire both; input spare; output low, bad;",
+    ),
+    // an output that is declared and not in the header
+    (
+        PORTS,
+        "(clk, a, spare, bad); input clk, a, spare; output bad, low; wire both;",
+    ),
     // an output `reg`
     ("output low", "output reg low"),
+    // a range
+    ("wire both;", "wire [0:0] both;"),
+    // a first value
+    ("reg q;", "reg q = 1'b0;"),
+    // a gate with a name
+    ("and (both", "and g (both"),
+    // a block
+    ("q <= a;", "begin q <= a; end"),
+    // a name that is no word
+    ("input spare", "input \\s+pare "),
+    // a second module
+    ("endmodule", "endmodule module other; endmodule"),
+];
+
+const PORTS: &str = "(input clk, input a, input spare, output low, output bad);\n  wire both;";
+
+// Texts of the same tree.
+const SAME: [Edit; 9] = [
+    // comments
+    ("wire both;", "wire both; // both"),
+    ("wire both;", "wire /* both */ both;"),
+    // an attribute
+    ("reg q;", "(* x = 1 *) reg q;"),
+    // several names
+    ("reg q;\n  reg r;", "reg q, r;"),
+    // delays
+    ("and (both, q, r);", "and #2 (both, q, r);"),
+    ("q <= a;", "q <= #1 a;"),
+    // an escaped name
+    ("reg q;", "reg \\q ;"),
+    // a direction for several ports
+    ("input clk, input a,", "input clk, a,"),
+    // ports that are declared after the header
+    (
+        PORTS,
+        "(clk, a, spare, low, bad); input clk, a, spare; output low, bad; wire both;",
+    ),
+];
+
+// An edit, and why the netlist is refused then.
+type Refused = (Edit, &'static str);
+
+const TEXTS: [Refused; 13] = [
+    // bytes that are no tokens
+    (("reg q;", "reg q;'"), "L1 at 90"),
+    (("reg q;", "reg q;/*"), "L2 at 90"),
+    (("reg q;", "reg q;\""), "L3 at 90"),
+    (("reg q;", "reg q;`define X 1"), "L4 at 90"),
+    // a reserved word as a name
+    (("input spare", "input tri"), "P1 at 37"),
+    (("input spare", "input assign"), "P4 at 37"),
     // a mark in the place of a name
-    ("input spare", "input @"),
-    // a mark less
-    ("reg q;", "reg q"),
-    // a byte that is in no token
-    ("reg q;", "reg q;."),
+    (("input spare", "input @"), "P4 at 37"),
+    // two words run together
+    (("module top", "moduletop"), "P4 at 0"),
+    (("wire both", "wireboth"), "P4 at 79"),
+    // a mark less, and a mark more
+    (("reg q;", "reg q"), "P4 at 92"),
+    (("reg q;", "reg q;."), "P4 at 90"),
+    // tokens after `endmodule`
+    (("endmodule", "endmodule;"), "P4 at 231"),
+    (("endmodule", "endmodule endmodule"), "P4 at 232"),
 ];
 
 const WAVEFORMS: [Edit; 17] = [
@@ -133,14 +194,21 @@ fn edited(rt: &impl Abort, alloc: Global, text: &str, edit: Edit) -> Result<Stri
     Ok(format!(in alloc; "{before}{new}{after}")?)
 }
 
-// Each edit of the netlist is refused, and the netlist is not.
-fn refuse_netlists(rt: &impl Abort, alloc: Global, edits: &[Edit]) -> Result<(), Fail> {
+// The edit of the netlist is refused for this reason.
+fn refuse(rt: &impl Abort, alloc: Global, edit: Edit, reason: &str) -> Result<(), Fail> {
+    let netlist = edited(rt, alloc, NETLIST, edit)?;
+    let (status, line) = answer(alloc, &netlist, STIMULUS)?;
+    assert_eq!(rt; status, Status::Netlist, "{netlist}");
+    let expected = format!(in alloc; "netlist refused: {reason}\n")?;
+    assert_eq!(rt; line.as_slice(), expected.as_bytes());
+    Ok(())
+}
+
+// Each edit of the netlist is refused for its form, and the netlist is not.
+fn refuse_forms(rt: &impl Abort, alloc: Global, edits: &[Edit]) -> Result<(), Fail> {
     accept(rt, alloc, NETLIST)?;
     for edit in edits {
-        let netlist = edited(rt, alloc, NETLIST, *edit)?;
-        let (status, line) = answer(alloc, &netlist, STIMULUS)?;
-        assert_eq!(rt; status, Status::Netlist, "{netlist}");
-        assert_eq!(rt; line.as_slice(), b"netlist refused: form\n".as_slice());
+        refuse(rt, alloc, *edit, "form")?;
     }
     Ok(())
 }
@@ -159,17 +227,35 @@ fn refuse_waveforms(rt: &impl Abort, alloc: Global, edits: &[Edit]) -> Result<()
 
 #[test]
 fn refuses_a_netlist_with_a_wrong_name(rt: HostRuntime) -> Result<(), Fail> {
-    refuse_netlists(&rt, rt.alloc(), &NAMES)
+    refuse_forms(&rt, rt.alloc(), &NAMES)
 }
 
 #[test]
 fn refuses_a_netlist_with_a_name_in_a_wrong_place(rt: HostRuntime) -> Result<(), Fail> {
-    refuse_netlists(&rt, rt.alloc(), &ROLES)
+    refuse_forms(&rt, rt.alloc(), &ROLES)
+}
+
+#[test]
+fn refuses_a_netlist_of_another_form(rt: HostRuntime) -> Result<(), Fail> {
+    refuse_forms(&rt, rt.alloc(), &FORMS)
 }
 
 #[test]
 fn refuses_a_netlist_with_a_wrong_text(rt: HostRuntime) -> Result<(), Fail> {
-    refuse_netlists(&rt, rt.alloc(), &TEXTS)
+    for (edit, reason) in TEXTS {
+        refuse(&rt, rt.alloc(), edit, reason)?;
+    }
+    Ok(())
+}
+
+#[test]
+fn accepts_each_text_of_the_tree(rt: HostRuntime) -> Result<(), Fail> {
+    let alloc = rt.alloc();
+    for edit in SAME {
+        let netlist = edited(&rt, alloc, NETLIST, edit)?;
+        accept(&rt, alloc, &netlist)?;
+    }
+    Ok(())
 }
 
 #[test]
@@ -177,23 +263,30 @@ fn refuses_a_waveform_that_is_wrong_in_one_place(rt: HostRuntime) -> Result<(), 
     refuse_waveforms(&rt, rt.alloc(), &WAVEFORMS)
 }
 
-// The netlist with spaces after it, up to this many bytes.
+// The netlist with a comment after it, up to this many bytes.
 fn padded(alloc: Global, len: usize) -> Result<String, Fail> {
     let mut netlist = String::from_str(alloc, NETLIST)?;
-    for _ in NETLIST.len()..len {
+    netlist.push_str("//")?;
+    for _ in netlist.len()..len {
         netlist.push(' ')?;
     }
     Ok(netlist)
 }
 
 #[test]
-fn reads_a_netlist_up_to_the_limit(rt: HostRuntime) -> Result<(), Fail> {
+fn reads_the_longest_netlist(rt: HostRuntime) -> Result<(), Fail> {
     let alloc = rt.alloc();
-    let longest = padded(alloc, 65_536)?;
-    accept(&rt, alloc, &longest)?;
-    let longer = padded(alloc, 65_537)?;
-    let (status, _) = answer(alloc, &longer, STIMULUS)?;
-    assert_eq!(rt; status, Status::Netlist);
+    let longest = padded(alloc, 16_777_216)?;
+    accept(&rt, alloc, &longest)
+}
+
+#[test]
+fn refuses_a_longer_netlist(rt: HostRuntime) -> Result<(), Fail> {
+    let alloc = rt.alloc();
+    let longer = padded(alloc, 16_777_217)?;
+    let (status, line) = answer(alloc, &longer, STIMULUS)?;
+    assert_eq!(rt; status, Status::Limit);
+    assert_eq!(rt; line.as_slice(), b"limit: netlist 16777216\n".as_slice());
     Ok(())
 }
 

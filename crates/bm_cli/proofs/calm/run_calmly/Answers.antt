@@ -1,5 +1,5 @@
 use Rattle.std.proofs.Common.{inl, inr, ⊎_elim, refl}
-use Rattle.bm_base.specs.declared.status.Status.TheVariants.{Done, Netlist, No, Waveform}
+use Rattle.bm_base.specs.declared.status.Status.TheVariants.{Done, Limit, Netlist, No, Waveform}
 use Rattle.bm_cli.specs.Words.{inputs_of}
 use Rattle.bm_cli.proofs.CalmLemmas.{calmly, no_fault_at_0, no_read_fails, no_read_of, no_rise, no_write_fails}
 use Rattle.bm_cli.proofs.calm.run_calmly.Goals as goal
@@ -17,6 +17,14 @@ returns-clause-words_refused c = λ nothing.
 pub returns-clause-netlist_refused : goal.returns-clause-netlist_refused
 returns-clause-netlist_refused c = λ command asks holds.
     calmly Netlist c.run.result _ _ (no_rise (inputs_of command).netlist) no_fault_at_0 (c.run.ensures.netlist_refused command c.args.shelf.now asks refl holds)
+
+pub returns-clause-no_netlist : goal.returns-clause-no_netlist
+returns-clause-no_netlist c = λ command asks holds.
+    calmly Netlist c.run.result _ _ (no_rise (inputs_of command).netlist) no_fault_at_0 (c.run.ensures.no_netlist command c.args.shelf.now asks refl holds)
+
+pub returns-clause-limit_passed : goal.returns-clause-limit_passed
+returns-clause-limit_passed c = λ command asks holds.
+    calmly Limit c.run.result _ _ (no_rise (inputs_of command).netlist) no_fault_at_0 (c.run.ensures.limit_passed command c.args.shelf.now asks refl holds)
 
 pub returns-clause-waveform_refused : goal.returns-clause-waveform_refused
 returns-clause-waveform_refused c = λ command asks holds.

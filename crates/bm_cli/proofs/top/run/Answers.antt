@@ -1,9 +1,9 @@
 use Rattle.bm_base.specs.Counts.{Rose}
 use Rattle.bm_cli.specs.Reason.{CallCounts}
 use Rattle.bm_cli.specs.Words.{check, inputs_of, minimise, texts}
-use Rattle.bm_cli.proofs.StageLemmas.{netlist_yields, waveform_yields}
+use Rattle.bm_cli.proofs.StageLemmas.{Laws, limit_yields, netlist_yields, refused_is_none, waveform_yields}
 use Rattle.bm_cli.proofs.StatusLemmas.{status_printed}
-use Rattle.bm_cli.proofs.VerdictLemmas.{accepted_yields, minimised, netlist_refused, no_violation, no_violation_yields, nothing_asked, read_failed, rejected_yields, says_no, says_yes, shelf_left, stage_for, told_for, violation_yields, waveform_refused, words_ask_nothing, write_failed}
+use Rattle.bm_cli.proofs.VerdictLemmas.{accepted_yields, limit_passed, minimised, netlist_refused, no_violation, no_violation_yields, nothing_asked, read_failed, rejected_yields, says_no, says_yes, shelf_left, stage_for, told_for, violation_yields, waveform_refused, words_ask_nothing, write_failed}
 use Rattle.bm_cli.proofs.top.run.Goals as goal
 
 pub returns-clause-words : goal.returns-clause-words
@@ -19,12 +19,28 @@ returns-clause-words_refused g c = λ none.
 pub returns-clause-netlist : goal.returns-clause-netlist
 returns-clause-netlist g c = λ is.
     let counts : CallCounts = record { reads = g.F.Shelf.reads c.args.shelf.now; reads_now = g.F.Shelf.reads c.obey-outcome.new.shelf; writes = g.F.Shelf.writes c.args.shelf.now; writes_now = g.F.Shelf.writes c.obey-outcome.new.shelf } in
-    netlist_refused (texts c.args.words.now) (g.F.Shelf.held c.args.shelf.now) counts c.obey-outcome.result c.finish.result (Rose (g.S.Sink.faults c.args.out.now) (g.S.Sink.faults c.finish.new.out)) c.obey-outcome.ensures.reason c.finish.ensures.ends is
+    netlist_refused (texts c.args.words.now) (g.F.Shelf.held c.args.shelf.now) counts c.obey-outcome.result c.finish.result (Rose (g.S.Sink.faults c.args.out.now) (g.S.Sink.faults c.finish.new.out)) c.obey-outcome.ensures.reason c.finish.ensures.ends (g.S.Sink.taken c.args.out.now) (g.S.Sink.taken c.finish.new.out) c.finish.ensures.printed is
 
 pub returns-clause-netlist_refused : goal.returns-clause-netlist_refused
-returns-clause-netlist_refused g c = λ command held asks told none.
+returns-clause-netlist_refused g c = λ command held asks told some.
+    let counts : CallCounts = record { reads = g.F.Shelf.reads c.args.shelf.now; reads_now = g.F.Shelf.reads c.obey-outcome.new.shelf; writes = g.F.Shelf.writes c.args.shelf.now; writes_now = g.F.Shelf.writes c.obey-outcome.new.shelf } in
+    let laws : Laws = record { one_design = c.bytes_spell_one_design.ensures; netlist_or_fault = c.netlist_or_fault.ensures } in
+    netlist_yields (inputs_of command) held counts c.obey-outcome.result c.finish.result (Rose (g.S.Sink.faults c.args.out.now) (g.S.Sink.faults c.finish.new.out)) (stage_for (texts c.args.words.now) (g.F.Shelf.held c.args.shelf.now) counts c.obey-outcome.result c.finish.result (Rose (g.S.Sink.faults c.args.out.now) (g.S.Sink.faults c.finish.new.out)) c.obey-outcome.ensures.reason c.finish.ensures.ends command held asks told) c.finish.ensures.ends (refused_is_none laws (inputs_of command) held some)
+
+pub returns-clause-no_netlist : goal.returns-clause-no_netlist
+returns-clause-no_netlist g c = λ command held asks told none.
     let counts : CallCounts = record { reads = g.F.Shelf.reads c.args.shelf.now; reads_now = g.F.Shelf.reads c.obey-outcome.new.shelf; writes = g.F.Shelf.writes c.args.shelf.now; writes_now = g.F.Shelf.writes c.obey-outcome.new.shelf } in
     netlist_yields (inputs_of command) held counts c.obey-outcome.result c.finish.result (Rose (g.S.Sink.faults c.args.out.now) (g.S.Sink.faults c.finish.new.out)) (stage_for (texts c.args.words.now) (g.F.Shelf.held c.args.shelf.now) counts c.obey-outcome.result c.finish.result (Rose (g.S.Sink.faults c.args.out.now) (g.S.Sink.faults c.finish.new.out)) c.obey-outcome.ensures.reason c.finish.ensures.ends command held asks told) c.finish.ensures.ends none
+
+pub returns-clause-limit : goal.returns-clause-limit
+returns-clause-limit g c = λ is.
+    let counts : CallCounts = record { reads = g.F.Shelf.reads c.args.shelf.now; reads_now = g.F.Shelf.reads c.obey-outcome.new.shelf; writes = g.F.Shelf.writes c.args.shelf.now; writes_now = g.F.Shelf.writes c.obey-outcome.new.shelf } in
+    limit_passed (texts c.args.words.now) (g.F.Shelf.held c.args.shelf.now) counts c.obey-outcome.result c.finish.result (Rose (g.S.Sink.faults c.args.out.now) (g.S.Sink.faults c.finish.new.out)) c.obey-outcome.ensures.reason c.finish.ensures.ends (g.S.Sink.taken c.args.out.now) (g.S.Sink.taken c.finish.new.out) c.finish.ensures.printed is
+
+pub returns-clause-limit_passed : goal.returns-clause-limit_passed
+returns-clause-limit_passed g c = λ command held asks told long.
+    let counts : CallCounts = record { reads = g.F.Shelf.reads c.args.shelf.now; reads_now = g.F.Shelf.reads c.obey-outcome.new.shelf; writes = g.F.Shelf.writes c.args.shelf.now; writes_now = g.F.Shelf.writes c.obey-outcome.new.shelf } in
+    limit_yields (inputs_of command) held counts c.obey-outcome.result c.finish.result (Rose (g.S.Sink.faults c.args.out.now) (g.S.Sink.faults c.finish.new.out)) (stage_for (texts c.args.words.now) (g.F.Shelf.held c.args.shelf.now) counts c.obey-outcome.result c.finish.result (Rose (g.S.Sink.faults c.args.out.now) (g.S.Sink.faults c.finish.new.out)) c.obey-outcome.ensures.reason c.finish.ensures.ends command held asks told) c.finish.ensures.ends long
 
 pub returns-clause-waveform : goal.returns-clause-waveform
 returns-clause-waveform g c = λ is.
@@ -34,7 +50,8 @@ returns-clause-waveform g c = λ is.
 pub returns-clause-waveform_refused : goal.returns-clause-waveform_refused
 returns-clause-waveform_refused g c = λ command held asks told none.
     let counts : CallCounts = record { reads = g.F.Shelf.reads c.args.shelf.now; reads_now = g.F.Shelf.reads c.obey-outcome.new.shelf; writes = g.F.Shelf.writes c.args.shelf.now; writes_now = g.F.Shelf.writes c.obey-outcome.new.shelf } in
-    waveform_yields (inputs_of command) held counts c.obey-outcome.result c.finish.result (Rose (g.S.Sink.faults c.args.out.now) (g.S.Sink.faults c.finish.new.out)) (stage_for (texts c.args.words.now) (g.F.Shelf.held c.args.shelf.now) counts c.obey-outcome.result c.finish.result (Rose (g.S.Sink.faults c.args.out.now) (g.S.Sink.faults c.finish.new.out)) c.obey-outcome.ensures.reason c.finish.ensures.ends command held asks told) c.finish.ensures.ends none
+    let laws : Laws = record { one_design = c.bytes_spell_one_design.ensures; netlist_or_fault = c.netlist_or_fault.ensures } in
+    waveform_yields laws (inputs_of command) held counts c.obey-outcome.result c.finish.result (Rose (g.S.Sink.faults c.args.out.now) (g.S.Sink.faults c.finish.new.out)) (stage_for (texts c.args.words.now) (g.F.Shelf.held c.args.shelf.now) counts c.obey-outcome.result c.finish.result (Rose (g.S.Sink.faults c.args.out.now) (g.S.Sink.faults c.finish.new.out)) c.obey-outcome.ensures.reason c.finish.ensures.ends command held asks told) c.finish.ensures.ends none
 
 pub returns-clause-no_violation : goal.returns-clause-no_violation
 returns-clause-no_violation g c = λ request asks is.
@@ -44,7 +61,8 @@ returns-clause-no_violation g c = λ request asks is.
 pub returns-clause-no_violation_found : goal.returns-clause-no_violation_found
 returns-clause-no_violation_found g c = λ request held asks told none.
     let counts : CallCounts = record { reads = g.F.Shelf.reads c.args.shelf.now; reads_now = g.F.Shelf.reads c.obey-outcome.new.shelf; writes = g.F.Shelf.writes c.args.shelf.now; writes_now = g.F.Shelf.writes c.obey-outcome.new.shelf } in
-    no_violation_yields request held counts c.obey-outcome.result c.finish.result (Rose (g.S.Sink.faults c.args.out.now) (g.S.Sink.faults c.finish.new.out)) (told_for (texts c.args.words.now) (g.F.Shelf.held c.args.shelf.now) counts c.obey-outcome.result c.finish.result (Rose (g.S.Sink.faults c.args.out.now) (g.S.Sink.faults c.finish.new.out)) c.obey-outcome.ensures.reason c.finish.ensures.ends (minimise request) held asks told) c.finish.ensures.ends none
+    let laws : Laws = record { one_design = c.bytes_spell_one_design.ensures; netlist_or_fault = c.netlist_or_fault.ensures } in
+    no_violation_yields laws request held counts c.obey-outcome.result c.finish.result (Rose (g.S.Sink.faults c.args.out.now) (g.S.Sink.faults c.finish.new.out)) (told_for (texts c.args.words.now) (g.F.Shelf.held c.args.shelf.now) counts c.obey-outcome.result c.finish.result (Rose (g.S.Sink.faults c.args.out.now) (g.S.Sink.faults c.finish.new.out)) c.obey-outcome.ensures.reason c.finish.ensures.ends (minimise request) held asks told) c.finish.ensures.ends none
 
 pub returns-clause-minimised : goal.returns-clause-minimised
 returns-clause-minimised g c = λ request asks is.
@@ -54,7 +72,8 @@ returns-clause-minimised g c = λ request asks is.
 pub returns-clause-violation_found : goal.returns-clause-violation_found
 returns-clause-violation_found g c = λ request held asks told some.
     let counts : CallCounts = record { reads = g.F.Shelf.reads c.args.shelf.now; reads_now = g.F.Shelf.reads c.obey-outcome.new.shelf; writes = g.F.Shelf.writes c.args.shelf.now; writes_now = g.F.Shelf.writes c.obey-outcome.new.shelf } in
-    violation_yields request held counts c.obey-outcome.result c.finish.result (Rose (g.S.Sink.faults c.args.out.now) (g.S.Sink.faults c.finish.new.out)) (told_for (texts c.args.words.now) (g.F.Shelf.held c.args.shelf.now) counts c.obey-outcome.result c.finish.result (Rose (g.S.Sink.faults c.args.out.now) (g.S.Sink.faults c.finish.new.out)) c.obey-outcome.ensures.reason c.finish.ensures.ends (minimise request) held asks told) c.finish.ensures.ends some
+    let laws : Laws = record { one_design = c.bytes_spell_one_design.ensures; netlist_or_fault = c.netlist_or_fault.ensures } in
+    violation_yields laws request held counts c.obey-outcome.result c.finish.result (Rose (g.S.Sink.faults c.args.out.now) (g.S.Sink.faults c.finish.new.out)) (told_for (texts c.args.words.now) (g.F.Shelf.held c.args.shelf.now) counts c.obey-outcome.result c.finish.result (Rose (g.S.Sink.faults c.args.out.now) (g.S.Sink.faults c.finish.new.out)) c.obey-outcome.ensures.reason c.finish.ensures.ends (minimise request) held asks told) c.finish.ensures.ends some
 
 pub returns-clause-says_yes : goal.returns-clause-says_yes
 returns-clause-says_yes g c = λ inputs asks is.
@@ -64,7 +83,8 @@ returns-clause-says_yes g c = λ inputs asks is.
 pub returns-clause-accepted : goal.returns-clause-accepted
 returns-clause-accepted g c = λ inputs held asks told some.
     let counts : CallCounts = record { reads = g.F.Shelf.reads c.args.shelf.now; reads_now = g.F.Shelf.reads c.obey-outcome.new.shelf; writes = g.F.Shelf.writes c.args.shelf.now; writes_now = g.F.Shelf.writes c.obey-outcome.new.shelf } in
-    accepted_yields inputs held counts c.obey-outcome.result c.finish.result (Rose (g.S.Sink.faults c.args.out.now) (g.S.Sink.faults c.finish.new.out)) (told_for (texts c.args.words.now) (g.F.Shelf.held c.args.shelf.now) counts c.obey-outcome.result c.finish.result (Rose (g.S.Sink.faults c.args.out.now) (g.S.Sink.faults c.finish.new.out)) c.obey-outcome.ensures.reason c.finish.ensures.ends (check inputs) held asks told) c.finish.ensures.ends some
+    let laws : Laws = record { one_design = c.bytes_spell_one_design.ensures; netlist_or_fault = c.netlist_or_fault.ensures } in
+    accepted_yields laws inputs held counts c.obey-outcome.result c.finish.result (Rose (g.S.Sink.faults c.args.out.now) (g.S.Sink.faults c.finish.new.out)) (told_for (texts c.args.words.now) (g.F.Shelf.held c.args.shelf.now) counts c.obey-outcome.result c.finish.result (Rose (g.S.Sink.faults c.args.out.now) (g.S.Sink.faults c.finish.new.out)) c.obey-outcome.ensures.reason c.finish.ensures.ends (check inputs) held asks told) c.finish.ensures.ends some
 
 pub returns-clause-says_no : goal.returns-clause-says_no
 returns-clause-says_no g c = λ inputs asks is.
@@ -74,7 +94,8 @@ returns-clause-says_no g c = λ inputs asks is.
 pub returns-clause-rejected : goal.returns-clause-rejected
 returns-clause-rejected g c = λ inputs held asks told none.
     let counts : CallCounts = record { reads = g.F.Shelf.reads c.args.shelf.now; reads_now = g.F.Shelf.reads c.obey-outcome.new.shelf; writes = g.F.Shelf.writes c.args.shelf.now; writes_now = g.F.Shelf.writes c.obey-outcome.new.shelf } in
-    rejected_yields inputs held counts c.obey-outcome.result c.finish.result (Rose (g.S.Sink.faults c.args.out.now) (g.S.Sink.faults c.finish.new.out)) (told_for (texts c.args.words.now) (g.F.Shelf.held c.args.shelf.now) counts c.obey-outcome.result c.finish.result (Rose (g.S.Sink.faults c.args.out.now) (g.S.Sink.faults c.finish.new.out)) c.obey-outcome.ensures.reason c.finish.ensures.ends (check inputs) held asks told) c.finish.ensures.ends none
+    let laws : Laws = record { one_design = c.bytes_spell_one_design.ensures; netlist_or_fault = c.netlist_or_fault.ensures } in
+    rejected_yields laws inputs held counts c.obey-outcome.result c.finish.result (Rose (g.S.Sink.faults c.args.out.now) (g.S.Sink.faults c.finish.new.out)) (told_for (texts c.args.words.now) (g.F.Shelf.held c.args.shelf.now) counts c.obey-outcome.result c.finish.result (Rose (g.S.Sink.faults c.args.out.now) (g.S.Sink.faults c.finish.new.out)) c.obey-outcome.ensures.reason c.finish.ensures.ends (check inputs) held asks told) c.finish.ensures.ends none
 
 pub returns-clause-read_fault : goal.returns-clause-read_fault
 returns-clause-read_fault g c = λ is.
