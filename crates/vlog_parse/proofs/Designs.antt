@@ -1,8 +1,6 @@
 -- The design that the tokens spell is what is read, both ways.
-use Rattle.std.proofs.Common.{◌≡◌, ℕ, List, [], ◌∷◌, ◌++◌, false, codes, length, Ok, Err, refl, sym, ap, ◌∙◌, subst, slice_get, Some, inr}
-use Rattle.std.specs.Prelude.{option_map}
+use Rattle.std.proofs.Common.{◌≡◌, ℕ, List, [], ◌∷◌, ◌++◌, false, codes, length, Ok, Err, refl, sym, ap, ◌∙◌, subst, inl, inr}
 use Rattle.std.proofs.lemmas.List.{length-map}
-use Rattle.std.proofs.lemmas.Option.{slice_get-map}
 use Rattle.vlog_tokens.specs.Toks.{Lexed, Tok, tok_of, toks}
 use Rattle.vlog_tokens.specs.declared.token.Token.{Token}
 use Rattle.vlog_tree.specs.declared.design.Design.{Design}
@@ -13,7 +11,7 @@ use Rattle.vlog_parse.specs.Delays.{any_delay}
 use Rattle.vlog_parse.specs.Items.{item}
 use Rattle.vlog_parse.specs.Modules.{design}
 use Rattle.vlog_parse.specs.Numbers.{sees_based}
-use Rattle.vlog_parse.specs.Places.{IsPlace}
+use Rattle.vlog_parse.specs.Places.{IsPlace, SpellNothing, place_in}
 use Rattle.vlog_parse.specs.Reads.{sees}
 use Rattle.vlog_parse.proofs.DeclarationsComplete.{port_items_complete, reg_items_complete, wire_items_complete}
 use Rattle.vlog_parse.proofs.DeclarationsSound.{port_items_sound, reg_items_sound, wire_items_sound}
@@ -27,6 +25,7 @@ use Rattle.vlog_parse.proofs.ItemsSound.{item_sound}
 use Rattle.vlog_parse.proofs.LeftFollows.{EndsLeft, left_ends}
 use Rattle.vlog_parse.proofs.LeftsComplete.{left_complete}
 use Rattle.vlog_parse.proofs.LeftsSound.{left_sound}
+use Rattle.vlog_parse.proofs.LocalModules.{design_keeps, stuck_at}
 use Rattle.vlog_parse.proofs.ModulesComplete.{EndsItem, design_complete, one_design_at_most}
 use Rattle.vlog_parse.proofs.ModulesSound.{design_sound}
 use Rattle.vlog_parse.proofs.Numbers.{number_complete, number_sound}
@@ -92,8 +91,23 @@ is_not_refused ts left n other same many rest e spelled = (let no = sym e ∙ re
 pub as_many : (tokens : List Token) (ts : List Tok) → toks tokens ≡ ts → length tokens ≡ length ts
 as_many tokens ts same = sym (length-map tokens tok_of) ∙ ap (length {A = Tok}) same
 
--- the place of a token of the source
-pub token_place : (lexed : Lexed) (tokens : List Token) (i : ℕ) (token : Token) → toks tokens ≡ lexed.list → slice_get tokens i ≡ Some token → IsPlace lexed token.at
-token_place lexed tokens i token same found =
-    let here : slice_get (toks tokens) i ≡ Some (tok_of token) = slice_get-map tok_of tokens i ∙ ap (option_map tok_of) found in
-    inr (i, tok_of token, rw same at here, refl)
+-- ---- where they do not fit
+
+-- A token of the list that does not fit does not, whatever follows it.
+misfit_from : (ts front : List Tok) (tok : Tok) (rest : List Tok) (n : ℕ) → n ≡ length ts → design n ts ≡ Err (tok ∷ rest) → ts ≡ front ++ tok ∷ rest → (more : List Tok) → SpellNothing (front ++ tok ∷ more)
+misfit_from ts front tok rest n many e same more found spelled =
+    let deep : n ≡ length (front ++ tok ∷ rest) = many ∙ ap (length {A = Tok}) same in
+    let here : design (length (front ++ tok ∷ rest)) (front ++ tok ∷ rest) ≡ Err (tok ∷ rest) = ap (λ (k : ℕ). design k (front ++ tok ∷ rest)) (sym deep) ∙ ap (design n) (sym same) ∙ e in
+    let stuck = stuck_at front tok rest more here in
+    let whole = design_complete number_complete items_complete (front ++ tok ∷ more) found spelled in
+    cc
+
+left_place : (lexed : Lexed) (ts left : List Tok) (n : ℕ) → ts ≡ lexed.list → n ≡ length ts → design n ts ≡ Err left → IsPlace lexed (place_in lexed left)
+left_place lexed ts [] n same many e = inl refl
+left_place lexed ts (tok ∷ rest) n same many e =
+    let (front, is) = design_keeps ts (tok ∷ rest) n many e in
+    inr (record { front = front; tok = tok; rest = rest; stands = sym same ∙ is; place = refl; none = misfit_from ts front tok rest n many e is })
+
+-- The place of the first token that is left is where the grammar is refused.
+pub stuck_place : (lexed : Lexed) (ts left : List Tok) (n at : ℕ) → ts ≡ lexed.list → n ≡ length lexed.list → design n ts ≡ Err left → at ≡ place_in lexed left → IsPlace lexed at
+stuck_place lexed ts left n at same many e is = subst (λ (place : ℕ). IsPlace lexed place) (sym is) (left_place lexed ts left n same (many ∙ ap (length {A = Tok}) (sym same)) e)

@@ -14,7 +14,7 @@ use Rattle.vlog_tree.specs.Spelling.Parts.{Commas, Is, IsCount, IsName, Producti
 use Rattle.vlog_tree.specs.Spelling.Selects as spelled
 use Rattle.vlog_tree.specs.Spelling.Selects.{IsSelect}
 use Rattle.vlog_parse.specs.Chains.{binary_of, chain, of_level, one_binary, one_unary, operation, sees_binary, sees_unary, unary_of, unary_operators, wrap}
-use Rattle.vlog_parse.specs.Exprs.{braces, choice, conditional, expr, join, level, literal, parentheses, primary, reference, repeat, unary}
+use Rattle.vlog_parse.specs.Exprs.{braces, choice, conditional, expr, inner_brace, join, level, literal, parentheses, primary, reference, repeat, unary}
 use Rattle.vlog_parse.specs.Looks.{is_decimal, sees_decimal_before}
 use Rattle.vlog_parse.specs.Numbers.{sees_based}
 use Rattle.vlog_parse.specs.Reads.{Outcome, Parser, and_then, loop, next_terminal, one_more, sees, separated}
@@ -27,7 +27,8 @@ use Rattle.vlog_parse.proofs.Loops.{GoesOn, begins, goes_on, same_whole, stops}
 use Rattle.vlog_parse.proofs.Numbers.{number_complete}
 use Rattle.vlog_parse.proofs.Rules.{◌>>=◌, Complete, expects, sees_is, sees_other, takes}
 use Rattle.vlog_parse.proofs.Selects.{select_complete, select_of_selected}
-use Rattle.vlog_parse.proofs.Terminals.{counts, name_found, name_free, names}
+use Rattle.vlog_parse.specs.Terminals.{is_size}
+use Rattle.vlog_parse.proofs.Terminals.{count_decimal, decimals, name_found, name_free, names}
 
 -- ---- the next token
 
@@ -108,6 +109,10 @@ module _ (inner : Parser Expr) where
 
 -- ---- one level of nesting
 
+brace_reads : (count : ℕ) (second : Tok) (ts : List Tok) → is_size count ≡ true → Is (codes "{") second → inner_brace count (second ∷ ts) ≡ Ok (second, ts)
+unfolding inner_brace
+brace_reads count second ts fits h = rw (fits, expects (codes "{") second ts h) refl
+
 module _ (inner : Parser Expr) (Inner : Production Expr) (size : ℕ) where
   abbrev Reads : Type 0
   Reads = Complete EndsExpr size inner Inner
@@ -156,8 +161,8 @@ module _ (inner : Parser Expr) (Inner : Production Expr) (size : ℕ) where
         sees_is (codes "{") opening (digits ∷ second ∷ after) h1,
         expects (codes "{") opening (digits ∷ second ∷ after) h1,
         decimal_before (codes "{") digits second count after h2 h3,
-        counts digits count (second ∷ after) h2,
-        expects (codes "{") second after h3,
+        decimals digits count (second ∷ after) (count_decimal digits count h2).0,
+        brace_reads count second after (count_decimal digits count h2).1 h3,
         parts_read complete s closing (last ∷ rest) h4 fits,
         expects (codes "}") closing (last ∷ rest) h4,
         expects (codes "}") last rest h5,

@@ -11,17 +11,17 @@ use Rattle.vlog_tree.specs.Spelling.Numbers.{IsNumber}
 use Rattle.vlog_tree.specs.Spelling.Operators.{binary_operator, unary_operator}
 use Rattle.vlog_tree.specs.Spelling.Parts.{Is, Production, place_of, terminal}
 use Rattle.vlog_parse.specs.Chains.{binary_of, chain, of_level, one_binary, one_unary, operation, sees_binary, sees_unary, unary_of, unary_operators, wrap}
-use Rattle.vlog_parse.specs.Exprs.{braces, choice, conditional, expr, join, level, literal, parentheses, primary, reference, repeat, unary}
+use Rattle.vlog_parse.specs.Exprs.{braces, choice, conditional, expr, inner_brace, join, level, literal, parentheses, primary, reference, repeat, unary}
 use Rattle.vlog_parse.specs.Looks.{sees_decimal_before, sees_name}
 use Rattle.vlog_parse.specs.Numbers.{number}
-use Rattle.vlog_parse.specs.Reads.{Parser, loop, loop_from, one_more, sees, separated}
+use Rattle.vlog_parse.specs.Reads.{Parser, and_then, expect, loop, loop_from, one_more, refuse, sees, separated}
 use Rattle.vlog_parse.specs.Selects.{select, select_of}
-use Rattle.vlog_parse.specs.Terminals.{count, name}
+use Rattle.vlog_parse.specs.Terminals.{decimal, is_size, name}
 use Rattle.vlog_parse.proofs.Lists.{separated_sound}
 use Rattle.vlog_parse.proofs.Numbers.{number_sound}
 use Rattle.vlog_parse.proofs.Rules.{◌>>=◌, Sound, Took, found_is, left_is, mark_took, take_took, then_took}
 use Rattle.vlog_parse.proofs.Selects.{select_sound}
-use Rattle.vlog_parse.proofs.Terminals.{count_took, name_took}
+use Rattle.vlog_parse.proofs.Terminals.{count_is, decimal_took, name_took}
 
 -- ---- lists of tokens in a row
 
@@ -41,6 +41,17 @@ pub number_place : {front : List Tok} {bits : List Bool} → IsNumber front bits
 number_place (IsNumber.decimal digits value h) rest = refl
 number_place (IsNumber.based digits bits h fits) rest = refl
 number_place (IsNumber.sized size digits width bits h based) rest = refl
+
+-- ---- replication counts
+
+-- A count that may be one, and the brace behind it.
+brace_took : (times : ℕ) (f : Tok → Parser Expr) (ts : List Tok) (e : Expr) (rest : List Tok) → and_then (inner_brace times ts) f ≡ Ok (e, rest) → (is_size times ≡ true) × (and_then (expect (codes "{") ts) f ≡ Ok (e, rest))
+unfolding inner_brace
+brace_took times f ts e rest read = by (is_size times) refl read
+  where
+    by : (b : Bool) → is_size times ≡ b → and_then ((if b then expect (codes "{") else refuse) ts) f ≡ Ok (e, rest) → (is_size times ≡ true) × (and_then (expect (codes "{") ts) f ≡ Ok (e, rest))
+    by true h read = (h, read)
+    by false h read = cc
 
 module _ (inner : Parser Expr) (Inner : Production Expr) where
   literal_sound : Sound literal (Primary Inner)
@@ -97,9 +108,10 @@ module _ (inner : Parser Expr) (Inner : Production Expr) where
   repeat_took : Sound inner Inner → (opening : Tok) (ts : List Tok) (e : Expr) (rest : List Tok) → Is (codes "{") opening → repeat inner ts ≡ Ok (e, rest) → Took (Primary Inner) (opening ∷ ts) e rest
   unfolding repeat
   repeat_took sound opening ts e rest h1 read = do
-    (times, ts1, was, m1) ← then_took (count ts) _ e rest read
-    (digits, e1, h2) ← count_took ts times ts1 was
-    (second, ts2, e2, h3, m2) ← mark_took (codes "{") _ ts1 e rest m1
+    (times, ts1, was, m1) ← then_took (decimal ts) _ e rest read
+    (digits, e1, value) ← decimal_took ts times ts1 was
+    (fits, brace) ← brace_took times _ ts1 e rest m1
+    (second, ts2, e2, h3, m2) ← mark_took (codes "{") _ ts1 e rest brace
     (parts, ts3, was3, m3) ← then_took (separated inner ts2) _ e rest m2
     (front, e3, s) ← separated_sound inner Inner sound ts2 parts ts3 was3
     (closing, ts4, e4, h4, m4) ← mark_took (codes "}") _ ts3 e rest m3
@@ -109,7 +121,7 @@ module _ (inner : Parser Expr) (Inner : Production Expr) where
       ap (λ (us : List Tok). opening ∷ us) (e1 ∙ ap (λ (us : List Tok). digits ∷ us) (e2 ∙ ap (λ (us : List Tok). second ∷ us) (e3
           ∙ ap (λ (us : List Tok). front ++ us) (e4 ∙ ap (λ (us : List Tok). closing ∷ us) (e5 ∙ ap (λ (us : List Tok). last ∷ us) (sym (left_is m5))))
           ∙ sym (append_assoc front (closing ∷ last ∷ []) rest)))),
-      subst (λ (x : Expr). Primary Inner (opening ∷ digits ∷ second ∷ (front ++ closing ∷ last ∷ [])) x) (sym (found_is m5)) (Primary.repeat opening digits second closing last front times parts h1 h2 h3 s h4 h5),
+      subst (λ (x : Expr). Primary Inner (opening ∷ digits ∷ second ∷ (front ++ closing ∷ last ∷ [])) x) (sym (found_is m5)) (Primary.repeat opening digits second closing last front times parts h1 (count_is digits times value fits) h3 s h4 h5),
     )
 
   braced : Sound inner Inner → (opening : Tok) (ts : List Tok) (e : Expr) (rest : List Tok) → Is (codes "{") opening

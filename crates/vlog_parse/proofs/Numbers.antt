@@ -9,14 +9,14 @@ use Rattle.vlog_tokens.specs.declared.token.TokenKind.{TokenKind}
 use Rattle.vlog_tokens.specs.declared.token.TokenKind.TheVariants.{Word, Escaped, System, Decimal, Based, Text, Mark}
 use Rattle.vlog_tree.specs.Spelling.Parts.{terminal, terminal_by}
 use Rattle.vlog_tree.specs.Spelling.Numbers.{IsBased, IsNumber, at_width, based_value, bits_of}
-use Rattle.vlog_parse.specs.Reads.{next_terminal, take_if}
-use Rattle.vlog_parse.specs.Terminals.{count, decimal, name_by, name_of}
-use Rattle.vlog_parse.specs.Numbers.{based_by, based_of, decimal_number, in_word, is_based_kind, number, sees_based, sees_size, sized_number, sized_of, unsized_number, unsized_of}
+use Rattle.vlog_parse.specs.Reads.{Outcome, and_then, next_terminal, refuse, take_if}
+use Rattle.vlog_parse.specs.Terminals.{decimal, is_size, name_by, name_of}
+use Rattle.vlog_parse.specs.Numbers.{based_by, based_of, decimal_number, in_word, is_based_kind, number, sees_based, sees_size, sized_digits, sized_number, sized_of, unsized_number, unsized_of}
 use Rattle.vlog_parse.specs.Fill.{Holds}
 use Rattle.vlog_parse.specs.declared.row.Row.{Row}
 use Rattle.vlog_parse.proofs.Fills.{same_width}
 use Rattle.vlog_parse.proofs.Rules.{◌>>=◌, Sound, Took, found_is, left_is, take_took, takes, then_took}
-use Rattle.vlog_parse.proofs.Terminals.{counts, count_took, based_free, decimal_free, decimals, decimal_took}
+use Rattle.vlog_parse.proofs.Terminals.{based_free, count_decimal, count_is, decimal_free, decimals, decimal_took}
 
 -- ---- one token
 
@@ -60,14 +60,24 @@ unsized_sound ts bits rest e = do
   (given, based, fits, same) ← unsized_is tok (based_of tok) bits refl h
   (tok ∷ [], e1, subst (IsNumber (tok ∷ [])) (sym same) (IsNumber.based tok given based fits))
 
+-- A size that may be one, and the token behind it.
+digits_took : (width : ℕ) (ts : List Tok) (bits : List Bool) (rest : List Tok) → sized_digits width ts ≡ Ok (bits, rest) → (is_size width ≡ true) × (take_if (sized_of width) ts ≡ Ok (bits, rest))
+unfolding sized_digits
+digits_took width ts bits rest e = by (is_size width) refl e
+  where
+    by : (b : Bool) → is_size width ≡ b → (if b then take_if (sized_of width) else refuse) ts ≡ Ok (bits, rest) → (is_size width ≡ true) × (take_if (sized_of width) ts ≡ Ok (bits, rest))
+    by true h e = (h, e)
+    by false h e = cc
+
 sized_sound : Sound sized_number IsNumber
 unfolding sized_number sized_of
 sized_sound ts bits rest e = do
-  (width, left, e1, m1) ← then_took (count ts) _ bits rest e
-  (size, e2, h2) ← count_took ts width left e1
-  (tok, e3, h3) ← take_took _ left bits rest m1
+  (width, left, e1, m1) ← then_took (decimal ts) _ bits rest e
+  (size, e2, h2) ← decimal_took ts width left e1
+  (fits, took) ← digits_took width left bits rest m1
+  (tok, e3, h3) ← take_took _ left bits rest took
   (given, based, same) ← sized_is width tok (based_of tok) bits refl h3
-  (size ∷ tok ∷ [], e2 ∙ ap (λ (xs : List Tok). size ∷ xs) e3, subst (IsNumber (size ∷ tok ∷ [])) (sym same) (IsNumber.sized size tok width given h2 based))
+  (size ∷ tok ∷ [], e2 ∙ ap (λ (xs : List Tok). size ∷ xs) e3, subst (IsNumber (size ∷ tok ∷ [])) (sym same) (IsNumber.sized size tok width given (count_is size width h2 fits) based))
 
 decimal_sound : Sound decimal_number IsNumber
 unfolding decimal_number
@@ -112,9 +122,9 @@ decimal_reads : (ts left : List Tok) (value : ℕ) → decimal ts ≡ Ok (value,
 unfolding decimal_number
 decimal_reads ts left value e = rw e refl
 
-sized_reads : (ts left rest : List Tok) (width : ℕ) (bits : List Bool) → count ts ≡ Ok (width, left) → take_if (sized_of width) left ≡ Ok (bits, rest) → sized_number ts ≡ Ok (bits, rest)
-unfolding sized_number
-sized_reads ts left rest width bits e m = rw e m
+sized_reads : (ts left rest : List Tok) (width : ℕ) (bits : List Bool) → decimal ts ≡ Ok (width, left) → is_size width ≡ true → take_if (sized_of width) left ≡ Ok (bits, rest) → sized_number ts ≡ Ok (bits, rest)
+unfolding sized_number sized_digits
+sized_reads ts left rest width bits e fits m = ap (λ (o : Outcome ℕ). and_then o sized_digits) e ∙ ap (λ (b : Bool). (if b then take_if (sized_of width) else refuse) left) fits ∙ m
 
 unsized_found : (tok : Tok) (given : List Bool) → IsBased tok given → list_all not (drop 32 given) ≡ true → unsized_of tok ≡ Some (at_width 32 given)
 unfolding unsized_of
@@ -135,7 +145,7 @@ number_complete front bits rest (IsNumber.decimal digits value h) follows =
 number_complete front bits rest (IsNumber.based digits given h fits) follows = unsized_complete digits given rest h fits
 number_complete front bits rest (IsNumber.sized size digits width given h based) follows =
     is_sized (size ∷ digits ∷ rest) (decimal_kind size.kind h.0) (based_kind digits.kind based.0)
-    ∙ sized_reads (size ∷ digits ∷ rest) (digits ∷ rest) rest width (at_width width given) (counts size width (digits ∷ rest) h) (takes (sized_of width) digits (at_width width given) rest (sized_found width digits given based))
+    ∙ sized_reads (size ∷ digits ∷ rest) (digits ∷ rest) rest width (at_width width given) (decimals size width (digits ∷ rest) (count_decimal size width h).0) (count_decimal size width h).1 (takes (sized_of width) digits (at_width width given) rest (sized_found width digits given based))
 
 -- ---- the first token of a number, and the token behind one
 

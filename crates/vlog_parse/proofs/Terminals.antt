@@ -10,7 +10,7 @@ use Rattle.vlog_tokens.specs.Toks.{Tok}
 use Rattle.vlog_tokens.specs.declared.token.TokenKind.{TokenKind}
 use Rattle.vlog_tokens.specs.declared.token.TokenKind.TheVariants.{Word, Escaped, System, Decimal, Based, Text, Mark}
 use Rattle.vlog_tree.specs.Spelling.Parts.{IsCount, IsDecimal, IsName, IsNameBy, decimal_value, terminal, terminal_by}
-use Rattle.vlog_parse.specs.Terminals.{count, count_of, decimal, decimal_between, decimal_of, name, name_by, name_of, number_by, unescaped}
+use Rattle.vlog_parse.specs.Terminals.{decimal, decimal_between, decimal_of, is_size, name, name_by, name_of, number_by, unescaped}
 use Rattle.vlog_parse.proofs.Rules.{take_took, takes}
 
 -- ---- reserved words
@@ -145,11 +145,13 @@ decimal_is tok n e = let (kind, same, low, high) = number_is 0 2147483647 tok n 
 pub decimal_found : (tok : Tok) (n : ℕ) → IsDecimal tok n → decimal_of tok ≡ Some n
 decimal_found tok n (kind, same, high) = number_found 0 2147483647 tok n kind same (omega arith) high
 
-pub count_is : (tok : Tok) (n : ℕ) → count_of tok ≡ Some n → IsCount tok n
-count_is tok n e = number_is 1 4096 tok n e
+-- A decimal that may be a size is a count.
+pub count_is : (tok : Tok) (n : ℕ) → IsDecimal tok n → is_size n ≡ true → IsCount tok n
+count_is tok n (kind, same, high) fits = let (least, most) = and_parts (nat_le 1 n) (nat_le n 4096) fits in (kind, same, leb-true 1 n least, leb-true n 4096 most)
 
-pub count_found : (tok : Tok) (n : ℕ) → IsCount tok n → count_of tok ≡ Some n
-count_found tok n (kind, same, low, high) = number_found 1 4096 tok n kind same low high
+-- A count is a decimal that may be a size.
+pub count_decimal : (tok : Tok) (n : ℕ) → IsCount tok n → IsDecimal tok n × (is_size n ≡ true)
+count_decimal tok n (kind, same, least, most) = ((kind, same, omega arith), and_from (nat_le 1 n) (nat_le n 4096) (le-leb 1 n least) (le-leb n 4096 most))
 
 pub decimal_took : (ts : List Tok) (n : ℕ) (rest : List Tok) → decimal ts ≡ Ok (n, rest) → (tok : Tok) × (ts ≡ tok ∷ rest) × IsDecimal tok n
 unfolding decimal
@@ -158,11 +160,3 @@ decimal_took ts n rest e = let (tok, same, h) = take_took decimal_of ts n rest e
 pub decimals : (tok : Tok) (n : ℕ) (rest : List Tok) → IsDecimal tok n → decimal (tok ∷ rest) ≡ Ok (n, rest)
 unfolding decimal
 decimals tok n rest h = takes decimal_of tok n rest (decimal_found tok n h)
-
-pub count_took : (ts : List Tok) (n : ℕ) (rest : List Tok) → count ts ≡ Ok (n, rest) → (tok : Tok) × (ts ≡ tok ∷ rest) × IsCount tok n
-unfolding count
-count_took ts n rest e = let (tok, same, h) = take_took count_of ts n rest e in (tok, same, count_is tok n h)
-
-pub counts : (tok : Tok) (n : ℕ) (rest : List Tok) → IsCount tok n → count (tok ∷ rest) ≡ Ok (n, rest)
-unfolding count
-counts tok n rest h = takes count_of tok n rest (count_found tok n h)

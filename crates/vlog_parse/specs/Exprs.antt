@@ -8,7 +8,8 @@ use Rattle.vlog_parse.specs.Looks.{sees_name, sees_decimal_before}
 use Rattle.vlog_parse.specs.Numbers.{number}
 use Rattle.vlog_parse.specs.Reads.{Parser, ◌>>=◌, ◌>>◌, pure, refuse, here, expect, sees, separated}
 use Rattle.vlog_parse.specs.Selects.{select, select_of}
-use Rattle.vlog_parse.specs.Terminals.{count, name}
+use Rattle.vlog_parse.specs.Terminals.{decimal, is_size, name}
+use Rattle.vlog_tokens.specs.Toks.{Tok}
 
 unfoldable pub literal : Parser Expr
 literal = do
@@ -23,6 +24,10 @@ reference = do
   text ← name
   taken ← select
   pure (named (select_of taken) at text)
+
+-- the second brace of a replication. By itself the decimal before it might be a number, so it does not fit here that the count is none.
+unfoldable pub inner_brace : ℕ → Parser Tok
+inner_brace times = if is_size times then expect (codes "{") else refuse
 
 -- The expressions that stand inside of this one are given.
 module _ (inner : Parser Expr) where
@@ -43,8 +48,8 @@ module _ (inner : Parser Expr) where
   -- what follows the opening brace of a replication
   unfoldable pub repeat : Parser Expr
   repeat = do
-    times ← count
-    expect (codes "{")
+    times ← decimal
+    inner_brace times
     parts ← separated inner
     expect (codes "}")
     expect (codes "}")

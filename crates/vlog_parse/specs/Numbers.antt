@@ -5,8 +5,8 @@ use Rattle.vlog_tokens.specs.Toks.{Tok}
 use Rattle.vlog_tokens.specs.declared.token.TokenKind.{TokenKind}
 use Rattle.vlog_tokens.specs.declared.token.TokenKind.TheVariants.{Based}
 use Rattle.vlog_tree.specs.Spelling.Numbers.{at_width, based_value, bits_of}
-use Rattle.vlog_parse.specs.Reads.{Parser, ◌>>=◌, pure, take_if}
-use Rattle.vlog_parse.specs.Terminals.{count, decimal}
+use Rattle.vlog_parse.specs.Reads.{Parser, ◌>>=◌, pure, refuse, take_if}
+use Rattle.vlog_parse.specs.Terminals.{decimal, is_size}
 use Rattle.vlog_parse.specs.declared.fault.Fault.{Fault}
 use Rattle.vlog_parse.specs.declared.fault.Fault.TheVariants as fault
 
@@ -69,11 +69,15 @@ decimal_number = do
 unfoldable pub unsized_number : Parser (List Bool)
 unsized_number = take_if unsized_of
 
+-- the based token behind a size. By itself the decimal before it might be a number, so it does not fit here that the size is none.
+unfoldable pub sized_digits : ℕ → Parser (List Bool)
+sized_digits width = if is_size width then take_if (sized_of width) else refuse
+
 -- a based token behind its size
 unfoldable pub sized_number : Parser (List Bool)
 sized_number = do
-  width ← count
-  take_if (sized_of width)
+  width ← decimal
+  sized_digits width
 
 unfoldable pub number : Parser (List Bool)
 number = λ ts. (if sees_based ts then unsized_number else (if sees_size ts then sized_number else decimal_number)) ts

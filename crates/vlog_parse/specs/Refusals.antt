@@ -1,12 +1,10 @@
 -- Why a list of tokens gives no design.
 use Rattle.std.specs.Prelude.{◌≡◌, List, Some, None}
 use Rattle.vlog_tokens.specs.Toks.{Lexed, Tok}
-use Rattle.vlog_tree.specs.Spelling.Modules.{IsDesign}
-use Rattle.vlog_tree.specs.declared.design.Design.{Design}
 use Rattle.vlog_parse.specs.Nest.{too_deep_at}
 use Rattle.vlog_parse.specs.NumberFaults.{number_fault_at}
 use Rattle.vlog_parse.specs.Outside.{outside_at}
-use Rattle.vlog_parse.specs.Places.{IsPlace}
+use Rattle.vlog_parse.specs.Places.{IsPlace, SpellNothing}
 use Rattle.vlog_parse.specs.declared.parse_fault.ParseFault.{ParseFault}
 use Rattle.vlog_parse.specs.declared.parse_fault.ParseFault.TheVariants as fault
 
@@ -15,10 +13,6 @@ pub record IsInProfile (ts : List Tok) : Type 0 where
   pub words : outside_at ts ≡ None
   pub numbers : number_fault_at ts ≡ None
   pub nest : too_deep_at ts ≡ None
-
--- The tokens spell no design.
-abbrev pub SpellNothing : List Tok → Type 0
-SpellNothing ts = (design : Design) → IsDesign ts design → ⊥
 
 -- The tokens spell nothing, or memory fails.
 abbrev pub IsMissed : Lexed → ParseFault → Type 0

@@ -1,5 +1,5 @@
 -- What one token stands for.
-use Rattle.std.specs.Prelude.{ℕ, ◌==◌, ◌&&◌, nat_le, List, [], ◌∷◌, Option, Some, None, if◌then◌else◌}
+use Rattle.std.specs.Prelude.{ℕ, ◌==◌, ◌&&◌, Bool, nat_le, List, [], ◌∷◌, Option, Some, None, if◌then◌else◌}
 use Rattle.vlog_tokens.specs.Toks.{Tok}
 use Rattle.vlog_tokens.specs.declared.token.TokenKind.{TokenKind}
 use Rattle.vlog_tokens.specs.declared.token.TokenKind.TheVariants.{Word, Escaped, Decimal}
@@ -20,6 +20,10 @@ name_by kind text = None
 -- the name that a token is
 unfoldable pub name_of : Tok → Option (List ℕ)
 name_of tok = name_by tok.kind tok.text
+
+-- whether a number may be a size or a replication count
+abbrev pub is_size : ℕ → Bool
+is_size value = nat_le 1 value && nat_le value 4096
 
 abbrev pub number_by : ℕ → ℕ → TokenKind → ℕ → Option ℕ
 number_by least most Decimal value = if nat_le least value && nat_le value most then Some value else None
@@ -42,6 +46,3 @@ name = take_if name_of
 
 unfoldable pub decimal : Parser ℕ
 decimal = take_if decimal_of
-
-unfoldable pub count : Parser ℕ
-count = take_if count_of

@@ -7,7 +7,7 @@ ghost use Rattle.vlog_parse.specs.Numbers.{peek, sees_based, sees_size};
 ghost use Rattle.vlog_parse.specs.Items.{any_token};
 ghost use Rattle.vlog_parse.specs.Looks as looks;
 ghost use Rattle.vlog_parse.specs.Reads as spec;
-ghost use Rattle.vlog_parse.specs.Reads.{Reads, ReadsToken, take_if};
+ghost use Rattle.vlog_parse.specs.Reads.{Reads, ReadsToken};
 ghost use Rattle.vlog_parse.specs.Terminals as terminals;
 
 use crate::fault::Fault;
@@ -142,27 +142,10 @@ impl<'t, 'a> Cursor<'t, 'a> {
         ensures reads { Reads (terminals.decimal self.old) result self.new }
         ensures consumes { OnOk result (length self.new < length self.old) }
     {
-        self.decimal_between(0, 2147483647)
-    }
-
-    /// The value of the next token, which has to be a decimal from 1 to 4096.
-    #[tactic(auto, unfolding(crate::specs::Reads::take_if, crate::specs::Terminals::count))]
-    pub fn count(&mut self) -> Result<u32, Fault>
-        ensures reads { Reads (terminals.count self.old) result self.new }
-        ensures consumes { OnOk result (length self.new < length self.old) }
-    {
-        self.decimal_between(1, 4096)
-    }
-
-    #[tactic(auto, unfolding(crate::specs::Reads::take_if))]
-    fn decimal_between(&mut self, least: u32, most: u32) -> Result<u32, Fault>
-        ensures reads { Reads (take_if (terminals.decimal_between least most) self.old) result self.new }
-        ensures consumes { OnOk result (length self.new < length self.old) }
-    {
         let [first, rest @ ..] = self.rest else {
             return Err(Fault::Token);
         };
-        let Some(value) = decimal_between(*first, least, most) else {
+        let Some(value) = decimal_between(*first, 0, 2147483647) else {
             return Err(Fault::Token);
         };
         self.rest = rest;
@@ -219,12 +202,5 @@ impl<'t, 'a> Cursor<'t, 'a> {
         };
         self.rest = rest;
         Ok(*first)
-    }
-
-    /// How many tokens are left.
-    pub fn len(&self) -> usize
-        ensures { result ≡ length self.now }
-    {
-        self.rest.len()
     }
 }

@@ -36,6 +36,3 @@ mod terminal;
 
 pub use parse_fault::ParseFault;
 pub use parser::parse;
-
-#[cfg(test)]
-mod tests;

@@ -3,12 +3,13 @@ ghost use Rattle.std.specs.Prelude.{◌<◌, length, OnOk};
 ghost use Rattle.vlog_tokens.specs.Toks.{tok_of};
 ghost use Rattle.vlog_parse.specs.Numbers as spec;
 ghost use Rattle.vlog_parse.specs.Numbers.{Means};
-ghost use Rattle.vlog_parse.specs.Reads.{Reads};
+ghost use Rattle.vlog_parse.specs.Reads.{Reads, take_if};
 
 use crate::based::based_row;
 use crate::cursor::Cursor;
 use crate::fault::Fault;
 use crate::row::Row;
+use crate::terminal::is_size;
 use bm_base::Bits;
 use std::alloc::Global;
 use vlog_tokens::{Token, TokenKind};
@@ -49,13 +50,35 @@ fn unsized_number(alloc: Global, cursor: &mut Cursor<'_, '_>) -> Result<Bits, Fa
     Ok(bits)
 }
 
-#[tactic(auto, unfolding(crate::specs::Numbers::sized_number, crate::specs::Reads::take_if))]
+#[tactic(auto, unfolding(crate::specs::Numbers::sized_number))]
 fn sized_number(alloc: Global, cursor: &mut Cursor<'_, '_>) -> Result<Bits, Fault>
     ensures reads { Reads (spec.sized_number cursor.old) result cursor.new }
     ensures consumes { OnOk result (length cursor.new < length cursor.old) }
 {
-    let width = cursor.count()?;
-    let bits = sized_bits(alloc, cursor.peek()?, width as usize)?;
+    let width = cursor.decimal()?;
+    sized_digits(alloc, cursor, width)
+}
+
+// The based token behind a size. A size outside the rules does not fit here, since the decimal by itself might be a number.
+#[tactic(auto, unfolding(crate::specs::Numbers::sized_digits))]
+fn sized_digits(alloc: Global, cursor: &mut Cursor<'_, '_>, width: u32) -> Result<Bits, Fault>
+    ensures reads { Reads (spec.sized_digits width cursor.old) result cursor.new }
+    ensures consumes { OnOk result (length cursor.new < length cursor.old) }
+{
+    if is_size(width) {
+        digits(alloc, cursor, width as usize)
+    } else {
+        Err(Fault::Token)
+    }
+}
+
+// A based token at a width.
+#[tactic(auto, unfolding(crate::specs::Reads::take_if))]
+fn digits(alloc: Global, cursor: &mut Cursor<'_, '_>, width: usize) -> Result<Bits, Fault>
+    ensures reads { Reads (take_if (spec.sized_of width) cursor.old) result cursor.new }
+    ensures consumes { OnOk result (length cursor.new < length cursor.old) }
+{
+    let bits = sized_bits(alloc, cursor.peek()?, width)?;
     cursor.skip();
     Ok(bits)
 }
@@ -84,6 +107,3 @@ fn sized_bits(alloc: Global, token: Token, width: usize) -> Result<Bits, Fault>
     }
     Ok(based_row(alloc, token.text, width)?.bits)
 }
-
-#[cfg(test)]
-mod tests;

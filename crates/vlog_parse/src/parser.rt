@@ -2,7 +2,7 @@
 ghost use Rattle.std.specs.Prelude.{◌≡◌, ◌⊎◌, IfErr, IfOk};
 ghost use Rattle.vlog_tree.specs.Spelling.Modules.{IsDesign};
 ghost use Rattle.vlog_tree.specs.declared.design.Design as tree;
-ghost use Rattle.vlog_parse.specs.Places.{IsPlace};
+ghost use Rattle.vlog_parse.specs.Places.{place_in};
 ghost use Rattle.vlog_parse.specs.Refusals.{IsCause, IsInProfile, IsMissed};
 ghost use Rattle.vlog_parse.specs.declared.parse_fault.ParseFault.TheVariants.{Memory};
 
@@ -13,13 +13,13 @@ use crate::nest::too_deep_at;
 use crate::number_fault::number_fault_at;
 use crate::outside::outside_at;
 use crate::parse_fault::ParseFault;
-use sqlite_items::at;
 use std::alloc::Global;
 use vlog_lexer::Tokens;
 use vlog_tree::Design;
 
 /// The design that the tokens spell, or the first reason that applies: a reserved word outside the profile, a number outside
-/// the rules, a token too deep, tokens that spell nothing.
+/// the rules, a token too deep, tokens that spell nothing. The place of the last reason is that of a token after which
+/// nothing can follow that mends it, or the source's length where a token is missing.
 pub fn parse(alloc: Global, tokens: &Tokens) -> Result<Design, ParseFault>
     ensures spelled { IfOk result (λ design. IsDesign tokens.now.list design × IsInProfile tokens.now.list) }
     ensures refused { IfErr result (λ fault. IsCause tokens.now fault) }
@@ -50,21 +50,18 @@ fn spelled_design(alloc: Global, tokens: &Tokens) -> Result<Design, ParseFault>
         Ok(design) => Ok(design),
         Err(Fault::Memory) => Err(ParseFault::Memory),
         Err(Fault::Token) => Err(ParseFault::Syntax {
-            at: place(tokens, cursor.len()),
+            at: place(tokens, &cursor),
         }),
     }
 }
 
 // The place of the first of the tokens that are left, or the end of the source.
-fn place(tokens: &Tokens, left: usize) -> u64
-    ensures { IsPlace tokens.now result }
+fn place(tokens: &Tokens, left: &Cursor<'_, '_>) -> u64
+    ensures { result ≡ place_in tokens.now left.now }
 {
-    let list = tokens.list();
-    let Some(read) = list.len().checked_sub(left) else {
-        return tokens.source_len();
-    };
-    match at(list, read) {
-        Some(token) => token.at,
-        None => tokens.source_len(),
+    if left.is_empty() {
+        tokens.source_len()
+    } else {
+        left.place()
     }
 }

@@ -3,7 +3,7 @@ ghost use Rattle.std.specs.Prelude.{◌≡◌, ◌<◌, length, OnOk};
 ghost use Rattle.vlog_tree.specs.Spelling.Exprs.{named};
 ghost use Rattle.vlog_parse.specs.Exprs as spec;
 ghost use Rattle.vlog_parse.specs.Nests.{Nests};
-ghost use Rattle.vlog_parse.specs.Reads.{Reads, separated};
+ghost use Rattle.vlog_parse.specs.Reads.{Reads, ReadsToken, separated};
 ghost use Rattle.vlog_parse.specs.Selects.{select_of};
 
 use crate::cursor::Cursor;
@@ -12,9 +12,11 @@ use crate::fault::Fault;
 use crate::list::separated;
 use crate::number::number;
 use crate::select::{Selection, select};
+use crate::terminal::is_size;
 use bm_base::Name;
 use sqlite_items::Items;
 use std::alloc::Global;
+use vlog_tokens::Token;
 use vlog_tree::Expr;
 
 #[tactic(auto, unfolding(crate::specs::Exprs::literal))]
@@ -46,6 +48,19 @@ fn named(taken: Selection, at: u64, name: Name) -> Expr
         Selection::Whole => Expr::Whole { at, name },
         Selection::Bit(index) => Expr::Bit { at, name, index },
         Selection::Part(range) => Expr::Part { at, name, range },
+    }
+}
+
+// The second brace of a replication. A count outside the rules does not fit here, since the decimal by itself might be a number.
+#[tactic(auto, unfolding(crate::specs::Exprs::inner_brace))]
+fn inner_brace<'a>(cursor: &mut Cursor<'_, 'a>, count: u32) -> Result<Token<'a>, Fault>
+    ensures reads { ReadsToken (spec.inner_brace count cursor.old) result cursor.new }
+    ensures consumes { OnOk result (length cursor.new < length cursor.old) }
+{
+    if is_size(count) {
+        cursor.expect("{")
+    } else {
+        Err(Fault::Token)
     }
 }
 
@@ -112,8 +127,8 @@ impl<F: Fn(Global, &mut Cursor<'_, '_>, usize) -> Result<Expr, Fault>> Grammar<F
         ensures reads { Reads (spec.repeat (spec.expr self.now.depth) cursor.old) result cursor.new }
         ensures consumes { OnOk result (length cursor.new < length cursor.old) }
     {
-        let count = cursor.count()?;
-        cursor.expect("{")?;
+        let count = cursor.decimal()?;
+        inner_brace(cursor, count)?;
         let parts = self.parts(cursor)?;
         cursor.expect("}")?;
         cursor.expect("}")?;

@@ -31,6 +31,13 @@ pub fn name_of<'a>(token: Token<'a>) -> Option<&'a [u8]>
     }
 }
 
+/// Whether a number may be a size or a replication count.
+pub fn is_size(value: u32) -> bool
+    ensures { result ≡ spec.is_size value }
+{
+    1 <= value && value <= 4096
+}
+
 /// The value of the decimal that the token is, if it is one between these.
 #[tactic(auto, unfolding(crate::specs::Terminals::decimal_between))]
 pub fn decimal_between(token: Token, least: u32, most: u32) -> Option<u32>

@@ -1,12 +1,12 @@
 //! The trees of whole netlists, places included, as they are worked out by hand.
 use super::netlists::{CELLS, COUNT, GEN, JUMP, SHIFT2, SHIFT3, WIRE};
 use super::tree::Tree;
-use crate::parse;
 use bm_base::Range;
 use sqlite_items::Items;
 use std::alloc::Global;
 use std::test::Fail;
 use vlog_lexer::lex;
+use vlog_parse::parse;
 use vlog_tree::{BinOp, Design, Dir, Expr, GateKind, Item, Module, NetKind, Stmt, UnOp};
 
 // The tree as text.

@@ -1,9 +1,9 @@
 //! For each production a text that it spells and the nearest texts that it does not.
-use crate::parse;
 use std::alloc::Global;
 use std::process::Abort;
 use std::test::Fail;
 use vlog_lexer::lex;
+use vlog_parse::parse;
 
 // Nothing where the text spells a design, else the fault.
 pub fn fault(alloc: Global, source: &str) -> Result<String, Fail> {

@@ -1,4 +1,5 @@
 mod netlists;
+mod numbers;
 mod productions;
 mod refusals;
 mod tree;
