@@ -1,0 +1,196 @@
+#!/usr/bin/env python3
+"""Measures in how much time and memory the program reads netlists of several kinds and sizes.
+
+Prints a table in Markdown. README.md beside this file says what the kinds and the columns are.
+"""
+
+import argparse
+import itertools
+import os
+import pathlib
+import shutil
+import subprocess
+import sys
+import tempfile
+import time
+
+MIB = 1 << 20
+SIZES = [1, 4, 16]  # MiB; the last is the greatest that is read
+PROGRAM = pathlib.Path(__file__).resolve().parent.parent / "crates/butramin/out/butramin"
+GNU_TIME = "/usr/bin/time"
+
+# What the program answers to a netlist that it read to the end and that is not of the first form.
+WANTED = (3, "netlist refused: form\n")
+
+# The most that the nest count of a token may be.
+NEST_LIMIT = 500
+
+GATES = ["nand", "nor", "and", "xor", "or", "xnor"]
+LIBRARY = """\
+module INV (A, Y);
+  input A;
+  output Y;
+  not (Y, A);
+endmodule
+module DFF (CK, D, Q);
+  input CK, D;
+  output reg Q;
+  always @(posedge CK) Q <= D;
+endmodule
+""" + "".join(
+    f"""\
+module {gate.upper()}2 (A, B, Y);
+  input A, B;
+  output Y;
+  {gate} (Y, A, B);
+endmodule
+"""
+    for gate in GATES
+)
+TOP = """\
+module top (input clk, input a, output bad);
+  assign bad = a;
+"""
+WIRES = 1000
+TOP_WITH_WIRES = TOP + "  wire " + ", ".join(f"n{i}" for i in range(WIRES)) + ";\n"
+END = "endmodule\n"
+
+
+def cell(i):
+    """A wire and the cell that drives it, which reads some of the hundred wires before."""
+    pins = [f"n{i - back}" if back <= i else "a" for back in (i * 37 % 100 + 1, i * 53 % 100 + 1)]
+    kind = i % (len(GATES) + 2)
+    if kind < len(GATES):
+        instance = f"{GATES[kind].upper()}2 U{i} (.A({pins[0]}), .B({pins[1]}), .Y(n{i}))"
+    elif kind == len(GATES):
+        instance = f"INV U{i} (.A({pins[0]}), .Y(n{i}))"
+    else:
+        instance = f"DFF state_reg_{i} (.CK(clk), .D({pins[0]}), .Q(n{i}))"
+    return f"  wire n{i};\n  {instance};\n"
+
+
+def wire(i):
+    return f"n{i * 7919 % WIRES}"
+
+
+def joined(names, operators):
+    return names[0] + "".join(f" {operator} {name}" for operator, name in zip(itertools.cycle(operators), names[1:]))
+
+
+def long_expression(i):
+    """A concatenation of 100 KB: after its first part, which has nearly all operators that may stand there, only names."""
+    width = 17_000
+    parts = [joined([wire(i + k) for k in range(490)], "&^|")] + [wire(i + k) for k in range(1, width)]
+    return f"  wire [{width - 1}:0] y{i};\n  assign y{i} = {{{', '.join(parts)}}};\n"
+
+
+def many_operators(i):
+    names = [wire(i + k) for k in range(NEST_LIMIT + 1)]
+    return f"  wire y{i};\n  assign y{i} = {joined(names, ['&', '^', '|', '=='])};\n"
+
+
+def deep_nest(i):
+    return f"  wire y{i};\n  assign y{i} = {'(' * NEST_LIMIT}{wire(i)}{')' * NEST_LIMIT};\n"
+
+
+def comment_line(i):
+    return f"line {i} of a comment, with a * and a / in it\n"
+
+
+# Of each kind what comes first, the i-th of the pieces that follow, and what comes last.
+KINDS = {
+    "many small items": (LIBRARY + TOP, cell, END),
+    "few long expressions": (TOP_WITH_WIRES, long_expression, END),
+    "operators at the limit": (TOP_WITH_WIRES, many_operators, END),
+    "deep nests at the limit": (TOP_WITH_WIRES, deep_nest, END),
+    "one long comment": (TOP + "/*\n", comment_line, "*/\n" + END),
+}
+
+
+def write_netlist(path, kind, size):
+    """Writes a netlist of this many bytes: as many pieces as fit, and newlines for the rest."""
+    first, piece, last = KINDS[kind]
+    with open(path, "w", encoding="ascii", newline="\n") as file:
+        left = size - file.write(first) - len(last)
+        for i in itertools.count():
+            text = piece(i)
+            if len(text) > left:
+                break
+            left -= file.write(text)
+        file.write(last + "\n" * left)
+
+
+def run(command, folder):
+    """Runs the command in the folder and gives its status and output, and its seconds and peak bytes of memory."""
+    note = folder / "peak"
+    start = time.perf_counter()
+    done = subprocess.run(
+        [GNU_TIME, "-q", "-f", "%M", "-o", note, *command],
+        cwd=folder,
+        env={**os.environ, "TMP": str(folder)},
+        stdin=subprocess.DEVNULL,
+        stdout=subprocess.PIPE,
+        text=True,
+    )
+    seconds = time.perf_counter() - start
+    return (done.returncode, done.stdout), (seconds, int(note.read_text()) * 1024)
+
+
+def program_cost(program, netlist, folder, runs):
+    """The least time of several runs, and the greatest peak."""
+    words = ["minimise", netlist, "no.vcd", "out.vcd", "--top", "top", "--clock", "clk", "--check", "bad"]
+    costs = []
+    for _ in range(runs):
+        answer, cost = run([program, *words], folder)
+        if answer != WANTED:
+            sys.exit(f"{program} answered {answer} and not {WANTED}")
+        costs.append(cost)
+    return min(seconds for seconds, _ in costs), max(peak for _, peak in costs)
+
+
+def iverilog_cells(netlist, size, folder, limit):
+    """Seconds and bytes of memory for each byte, of one run."""
+    if not shutil.which("iverilog") or limit == 0:
+        return ["", ""]
+    (status, _), (seconds, peak) = run(["timeout", str(limit), "iverilog", "-t", "null", "-s", "top", netlist], folder)
+    if status == 124:
+        return [f"over {limit}", ""]
+    return [f"{seconds:.2f}", f"{peak / size:.1f}"] if status == 0 else [f"status {status}", ""]
+
+
+def print_row(cells):
+    print("| " + " | ".join(cells) + " |", flush=True)
+
+
+def measure(program, kinds, runs, limit, folder):
+    print_row(["kind", "MiB", "seconds", "memory", "iverilog seconds", "iverilog memory", "growth of time", "growth of memory"])
+    print_row(["---"] + ["--:"] * 7)
+    netlist = folder / "netlist.v"
+    for kind in kinds:
+        before = None
+        for mib in SIZES:
+            size = mib * MIB
+            write_netlist(netlist, kind, size)
+            seconds, peak = program_cost(program, netlist, folder, runs)
+            growth = [f"{seconds / before[0]:.1f}", f"{peak / before[1]:.1f}"] if before else ["", ""]
+            before = seconds, peak
+            row = [kind, str(mib), f"{seconds:.3f}", f"{peak / size:.1f}"]
+            print_row(row + iverilog_cells(netlist, size, folder, limit) + growth)
+
+
+def main():
+    parser = argparse.ArgumentParser(description=__doc__, formatter_class=argparse.RawDescriptionHelpFormatter)
+    parser.add_argument("program", nargs="?", default=PROGRAM, type=pathlib.Path, help="default: %(default)s")
+    parser.add_argument("--runs", type=int, default=3, help="runs of the program on each netlist (default: 3)")
+    parser.add_argument("--kind", choices=KINDS, action="append", help="measure this kind alone")
+    parser.add_argument("--iverilog-limit", type=int, default=120, help="seconds; 0 leaves iverilog out (default: 120)")
+    asked = parser.parse_args()
+    for needed in (asked.program, GNU_TIME):
+        if not os.access(needed, os.X_OK):
+            parser.error(f"there is no program {needed}")
+    with tempfile.TemporaryDirectory() as folder:
+        measure(asked.program.resolve(), asked.kind or KINDS, asked.runs, asked.iverilog_limit, pathlib.Path(folder))
+
+
+if __name__ == "__main__":
+    main()
