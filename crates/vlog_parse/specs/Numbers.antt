@@ -69,7 +69,7 @@ decimal_number = do
 unfoldable pub unsized_number : Parser (List Bool)
 unsized_number = take_if unsized_of
 
--- the based token behind a size. By itself the decimal before it might be a number, so it does not fit here that the size is none.
+-- The based token behind a size. A decimal may be a number by itself, so it is here that one outside the bounds of a size does not fit.
 unfoldable pub sized_digits : ℕ → Parser (List Bool)
 sized_digits width = if is_size width then take_if (sized_of width) else refuse
 
