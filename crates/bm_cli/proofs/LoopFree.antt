@@ -1,11 +1,10 @@
 -- A design of the first form is loop-free.
-use Rattle.std.proofs.Common.{◌≡◌, ℕ, ◌-◌, ◌<◌, suc, List, [], ◌∷◌, Bool, true, false, cond, Some, None, Option, IsSome, is_some, bytes_eq, find, get_or, length, map, slice_get, arith, refl, ap, sym, ◌∙◌, subst, inl, inr}
+use Rattle.std.proofs.Common.{◌≡◌, ℕ, ◌-◌, ◌<◌, suc, List, Bool, true, false, cond, Some, None, Option, IsSome, is_some, bytes_eq, find, get_or, length, map, slice_get, arith, refl, ap, sym, ◌∙◌, subst, inl, inr}
 use Rattle.std.specs.Option.{option_or}
 use Rattle.std.proofs.lemmas.List.{length-map}
 use Rattle.std.proofs.lemmas.List.Elements.{All-map, All-same}
 use Rattle.std.proofs.lemmas.Option.{slice_get-get_or}
 use Rattle.vlog_tree.specs.declared.design.Design.{Design}
-use Rattle.vlog_tree.specs.declared.design.Module.{Module}
 use Rattle.vlog_tree.specs.declared.item.Item.{Item}
 use Rattle.vlog_tree.specs.declared.key.Key.{Key}
 use Rattle.vlog_tree.specs.Keys.{all_keys}

@@ -1,32 +1,24 @@
 -- A netlist that was read or refused, from what the lexer, the parser and the conditions say.
-use Rattle.std.proofs.Common.{◌≡◌, ◌≢◌, ◌⊎◌, ◌≤◌, inl, inr, ℕ, List, None, Some, Result, Ok, Err, ap, length, subst, sym, ◌∙◌, refl}
-use Rattle.std.proofs.lemmas.Option.{none-some}
+use Rattle.std.proofs.Common.{◌≡◌, ◌⊎◌, inl, inr, ℕ, List, length, subst, sym}
 use Rattle.trace_rows.specs.declared.labels.Labels.{Labels}
-use Rattle.vlog_lexer.specs.Faults.{FailsAt, IsTokensOrFault}
+use Rattle.vlog_lexer.specs.Faults.{FailsAt}
 use Rattle.vlog_lexer.specs.declared.fault.LexFault.{LexFault}
 use Rattle.vlog_lexer.specs.declared.fault.LexFault.TheVariants as lex
-use Rattle.vlog_parse.specs.NumberFaults.{number_fault_at}
-use Rattle.vlog_parse.specs.Nest.{too_deep_at}
-use Rattle.vlog_parse.specs.Outside.{outside_at}
 use Rattle.vlog_parse.specs.Refusals.{IsCause, IsInProfile}
 use Rattle.vlog_parse.specs.declared.parse_fault.ParseFault.{ParseFault}
 use Rattle.vlog_parse.specs.declared.parse_fault.ParseFault.TheVariants as parse
-use Rattle.vlog_tokens.specs.Tokens.{AreTokens, IsOneTokenList}
+use Rattle.vlog_tokens.specs.Tokens.{AreTokens}
 use Rattle.vlog_tokens.specs.Toks.{Lexed, Tok}
 use Rattle.vlog_tree.specs.declared.design.Design.{Design}
-use Rattle.vlog_tree.specs.Spelling.{IsOneDesign}
 use Rattle.vlog_tree.specs.Spelling.Modules.{IsDesign}
 use Rattle.bm_cli.specs.Circuit.{IsInOrder}
 use Rattle.bm_cli.specs.FirstForm.{IsFirstForm}
-use Rattle.bm_cli.specs.Input.{IsNetlist, IsRead, SpellsInProfile, SpellsNetlist, design_labels}
-use Rattle.bm_cli.specs.NetlistFaults.{IsNetlistOrFault, IsParseFault, IsReason}
+use Rattle.bm_cli.specs.Input.{IsRead, SpellsInProfile, design_labels}
 use Rattle.bm_cli.specs.Reading.{StopsFor, stop_of_lex, stop_of_parse}
 use Rattle.bm_cli.specs.TopNames.{TopNames}
 use Rattle.bm_cli.specs.Waveform.{AreWords}
 use Rattle.bm_cli.specs.Wired.{IsWired, items_of}
 use Rattle.bm_cli.specs.declared.netlist.circuit.Circuit.{Circuit}
-use Rattle.bm_cli.specs.declared.netlist.fault.NetlistFault.{NetlistFault}
-use Rattle.bm_cli.specs.declared.netlist.fault.NetlistFault.TheVariants as fault
 use Rattle.bm_cli.proofs.Meaning.{circuit_is_machine}
 use Rattle.bm_cli.proofs.NameLemmas.{labels_are_words}
 

@@ -1,4 +1,4 @@
-use Rattle.std.proofs.Common.{rules, ◌∙◌, sym}
+use Rattle.std.proofs.Common.{◌∙◌, sym}
 use Rattle.bm_cli.proofs.FormLemmas.{no_item_left}
 use Rattle.bm_cli.proofs.netlist.conditions.begin_with_ports.Goals as goal
 
