@@ -19,8 +19,6 @@ mod shelf;
 mod sink;
 mod size;
 mod status;
-#[cfg(test)]
-mod tests;
 
 pub use bits::Bits;
 pub use call::Call;

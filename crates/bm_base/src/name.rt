@@ -1,21 +1,25 @@
 ghost use Rattle.std.specs.Prelude.{◌≡◌, IfOk};
+ghost use Rattle.std.specs.Rc.{rc_slice_items};
 
 use crate::NoMemory;
-use std::alloc::Global;
+use std::alloc::{AllocError, Global};
 use std::marker::Model;
+use std::rc::RcSlice;
 
-/// A name of a netlist or of a waveform: any bytes, seen by contracts as their list.
+/// A name of a netlist or of a waveform: any bytes, seen by contracts as their list. The text is shared: a clone takes no
+/// memory for it.
 #[derive(Debug, Drop)]
 pub struct Name {
-    text: Vec<u8>,
+    text: RcSlice<u8>,
 }
 
 impl Model for Name {
     ghost use Rattle.std.specs.Prelude.{List, ℕ};
+    ghost use Rattle.std.specs.Rc.{rc_slice_items};
 
     ghost Value = { List ℕ };
 
-    ghost view = { λ name. name.text.items };
+    ghost view = { λ name. rc_slice_items name.text };
 }
 
 impl Name {
@@ -23,7 +27,7 @@ impl Name {
     pub fn new(alloc: Global, text: &[u8]) -> Result<Name, NoMemory>
         ensures { IfOk result (λ name. name ≡ text.now) }
     {
-        let text = Vec::from_slice(alloc, text)?;
+        let text = RcSlice::from_slice(alloc, text)?;
         Ok(Name { text })
     }
 
@@ -31,5 +35,14 @@ impl Name {
         ensures { result.now ≡ self.now }
     {
         self.text.as_slice()
+    }
+}
+
+impl Clone for Name {
+    ghost is_clone = { λ name copy. copy ≡ name };
+
+    fn clone(&self) -> Result<Name, AllocError> {
+        let text = self.text.clone()?;
+        Ok(Name { text })
     }
 }
