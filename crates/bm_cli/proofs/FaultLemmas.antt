@@ -5,7 +5,7 @@ use Rattle.vlog_lexer.specs.Faults.{FailsAt, IsOneFault, IsTokensOrFault}
 use Rattle.vlog_lexer.specs.declared.fault.LexFault.{LexFault}
 use Rattle.vlog_lexer.specs.declared.fault.LexFault.TheVariants as lex
 use Rattle.vlog_parse.specs.Nest.{too_deep_at}
-use Rattle.vlog_parse.specs.NumberFaults.{number_fault_at}
+use Rattle.vlog_numbers.specs.NumberFaults.{number_fault_at}
 use Rattle.vlog_parse.specs.Outside.{outside_at}
 use Rattle.vlog_parse.specs.Refusals.{IsCause, IsInProfile}
 use Rattle.vlog_parse.specs.declared.parse_fault.ParseFault.{ParseFault}

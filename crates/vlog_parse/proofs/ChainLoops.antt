@@ -6,8 +6,8 @@ use Rattle.vlog_tree.specs.declared.expr.Expr.TheVariants as expr
 use Rattle.vlog_tree.specs.declared.expr.UnOp.{UnOp}
 use Rattle.vlog_parse.specs.Chains.{chain, one_unary, operation, sees_binary, sees_unary, unary_operators, wrap}
 use Rattle.vlog_parse.specs.Reads.{Outcome, Parser, Reads, ReadsInto, and_then, loop, one_more}
-use Rattle.vlog_parse.specs.declared.fault.Fault.{Fault}
-use Rattle.vlog_parse.specs.declared.fault.Fault.TheVariants as fault
+use Rattle.vlog_numbers.specs.declared.fault.Fault.{Fault}
+use Rattle.vlog_numbers.specs.declared.fault.Fault.TheVariants as fault
 use Rattle.vlog_parse.proofs.Loops.{GoesOn, begins, stuck_at}
 
 pub unary_begins : (none : List UnOp) (ts : List Tok) → none ≡ [] → GoesOn sees_unary (one_more one_unary) (unary_operators ts) none ts

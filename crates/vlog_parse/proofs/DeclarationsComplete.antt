@@ -21,7 +21,8 @@ use Rattle.vlog_parse.specs.Declarations.{any_range, assigned_expr, assigned_num
 use Rattle.vlog_parse.specs.Delays.{any_delay}
 use Rattle.vlog_parse.specs.Exprs as exprs
 use Rattle.vlog_parse.specs.Gathers.{gathered}
-use Rattle.vlog_parse.specs.Numbers.{is_based_kind, number, sees_based}
+use Rattle.vlog_numbers.specs.Values.{is_based_kind, sees_based}
+use Rattle.vlog_parse.specs.Numbers.{number}
 use Rattle.vlog_parse.specs.Reads.{◌>>◌, Parser, expect, pure, sees}
 use Rattle.vlog_parse.proofs.DeclarationsSound.{number_place}
 use Rattle.vlog_parse.proofs.Gathered.{gathered_complete}
@@ -191,19 +192,19 @@ module _ (number_complete : (front : List Tok) (bits : List Bool) (rest : List T
       front parts (semi ∷ rest) spelled (omega arith) (semi_ends semi rest h) (sees_other (codes ";") (codes ",") semi rest h refl) in
       rw (behind front semi rest, read, expects (codes ";") semi rest h) refl
 
-  pub port_items_complete : (depth : ℕ) (ss ns : List Tok) (semi : Tok) (shape : Shape) (parts : List Declared) (rest : List Tok) → IsPortShape ss shape → Commas (IsRegister shape.kind) ns parts → Is (codes ";") semi
-      → port_items depth ((ss ++ (ns ++ semi ∷ [])) ++ rest) ≡ Ok (flat_map (spelling.register_items shape) parts, rest)
+  pub port_items_complete : (ss ns : List Tok) (semi : Tok) (shape : Shape) (parts : List Declared) (rest : List Tok) → IsPortShape ss shape → Commas (IsRegister shape.kind) ns parts → Is (codes ";") semi
+      → port_items ((ss ++ (ns ++ semi ∷ [])) ++ rest) ≡ Ok (flat_map (spelling.register_items shape) parts, rest)
   unfolding port_items
-  port_items_complete depth ss ns semi shape parts rest s spelled h =
+  port_items_complete ss ns semi shape parts rest s spelled h =
       let whole : (ss ++ (ns ++ semi ∷ [])) ++ rest ≡ ss ++ ((ns ++ semi ∷ []) ++ rest) = append_assoc ss (ns ++ semi ∷ []) rest in
       let starts : StartsName ((ns ++ semi ∷ []) ++ rest) = subst StartsName (sym (behind ns semi rest)) (commas_start (IsRegister shape.kind) (register_starts shape.kind) ns parts (semi ∷ rest) spelled) in
       let shaped : port_shape (ss ++ ((ns ++ semi ∷ []) ++ rest)) ≡ Ok (shape, (ns ++ semi ∷ []) ++ rest) = (port_shape_read ss shape ((ns ++ semi ∷ []) ++ rest) s starts).0 in
       rw (whole, shaped) (registers_read shape ns parts semi rest spelled h)
 
-  pub reg_items_complete : (depth : ℕ) (word : Tok) (rs ns : List Tok) (semi : Tok) (found : Option Range) (parts : List Declared) (rest : List Tok) → Is (codes "reg") word → Optional IsRange rs found → Commas (IsRegister kinds.Reg) ns parts → Is (codes ";") semi
-      → reg_items depth ((word ∷ (rs ++ (ns ++ semi ∷ []))) ++ rest) ≡ Ok (flat_map (spelling.register_items (record { dir = None; kind = kinds.Reg; range = found })) parts, rest)
+  pub reg_items_complete : (word : Tok) (rs ns : List Tok) (semi : Tok) (found : Option Range) (parts : List Declared) (rest : List Tok) → Is (codes "reg") word → Optional IsRange rs found → Commas (IsRegister kinds.Reg) ns parts → Is (codes ";") semi
+      → reg_items ((word ∷ (rs ++ (ns ++ semi ∷ []))) ++ rest) ≡ Ok (flat_map (spelling.register_items (record { dir = None; kind = kinds.Reg; range = found })) parts, rest)
   unfolding reg_items
-  reg_items_complete depth word rs ns semi found parts rest met r spelled h =
+  reg_items_complete word rs ns semi found parts rest met r spelled h =
       let whole : (rs ++ (ns ++ semi ∷ [])) ++ rest ≡ rs ++ ((ns ++ semi ∷ []) ++ rest) = append_assoc rs (ns ++ semi ∷ []) rest in
       let starts : StartsName ((ns ++ semi ∷ []) ++ rest) = subst StartsName (sym (behind ns semi rest)) (commas_start (IsRegister kinds.Reg) (register_starts kinds.Reg) ns parts (semi ∷ rest) spelled) in
       let ranged : any_range (rs ++ ((ns ++ semi ∷ []) ++ rest)) ≡ Ok (found, (ns ++ semi ∷ []) ++ rest) = any_range_read rs found ((ns ++ semi ∷ []) ++ rest) r (name_unseen (codes "[") ((ns ++ semi ∷ []) ++ rest) starts refl) in

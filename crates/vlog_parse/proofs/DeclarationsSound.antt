@@ -218,9 +218,9 @@ module _ (expr_sound : (depth : ℕ) → Sound (exprs.expr depth) SpellsExpr) wh
 
 -- ---- declarations
 
-pub port_items_sound : Sound range IsRange → Sound number IsNumber → (depth : ℕ) → Sound (port_items depth) IsItem
+pub port_items_sound : Sound range IsRange → Sound number IsNumber → Sound port_items IsItem
 unfolding port_items
-port_items_sound range_sound number_sound depth ts items rest e = do
+port_items_sound range_sound number_sound ts items rest e = do
   (shape, ts1, was, m) ← then_took (port_shape ts) registers items rest e
   (ss, e1, s) ← port_shape_sound range_sound ts shape ts1 was
   (ns, semi, e2, met, all) ← registers_sound number_sound shape ts1 items rest m
@@ -231,9 +231,9 @@ port_items_sound range_sound number_sound depth ts items rest e = do
     subst (λ (found : List Item). IsItem (ss ++ (ns ++ semi ∷ [])) found) (sym same) (IsItem.port ss ns semi shape names s spelled met),
   )
 
-pub reg_items_sound : Sound range IsRange → Sound number IsNumber → (depth : ℕ) → Sound (reg_items depth) IsItem
+pub reg_items_sound : Sound range IsRange → Sound number IsNumber → Sound reg_items IsItem
 unfolding reg_items
-reg_items_sound range_sound number_sound depth ts items rest e = do
+reg_items_sound range_sound number_sound ts items rest e = do
   (word, ts1, e1, met1, m1) ← mark_took (codes "reg") _ ts items rest e
   (found, ts2, was, m2) ← then_took (any_range ts1) _ items rest m1
   (rs, e2, r) ← any_range_sound range_sound ts1 found ts2 was

@@ -6,7 +6,7 @@ use Rattle.vlog_tokens.specs.declared.token.TokenKind.TheVariants.{Word, Escaped
 use Rattle.vlog_tree.specs.Spelling.Parts.{Commas, Is, IsAnyDelay, IsDecimal, IsDelay, One}
 use Rattle.vlog_tree.specs.Spelling.Stmts.{BeginsBased, EndsInDecimal, IsParted}
 use Rattle.vlog_parse.specs.Delays.{any_delay, delay, parted, several, single, values}
-use Rattle.vlog_parse.specs.Numbers.{is_based_kind, sees_based}
+use Rattle.vlog_numbers.specs.Values.{is_based_kind, sees_based}
 use Rattle.vlog_parse.specs.Reads.{sees}
 use Rattle.vlog_parse.specs.Terminals.{decimal}
 use Rattle.vlog_parse.proofs.DelaysSound.{parted_by}

@@ -10,7 +10,7 @@ use Rattle.vlog_tree.specs.Spelling.Parts.{Is, IsAnyDelay}
 use Rattle.vlog_parse.specs.Delays.{any_delay}
 use Rattle.vlog_parse.specs.Items.{item}
 use Rattle.vlog_parse.specs.Modules.{design}
-use Rattle.vlog_parse.specs.Numbers.{sees_based}
+use Rattle.vlog_numbers.specs.Values.{sees_based}
 use Rattle.vlog_parse.specs.Places.{IsPlace, SpellNothing, place_in}
 use Rattle.vlog_parse.specs.Reads.{sees}
 use Rattle.vlog_parse.proofs.DeclarationsComplete.{port_items_complete, reg_items_complete, wire_items_complete}
@@ -62,8 +62,8 @@ delays_complete front rest d h b = delay_complete front rest d h (parted_by fron
 items_complete : (depth : ℕ) → Complete EndsItem depth (item depth) IsItem
 items_complete depth =
     item_complete EndsExpr expr_complete comma_ends_expr closing_ends_expr semi_ends_expr EndsLeft left_complete comma_ends_left equals_ends_left delays_complete expr_sound left_sound number_complete
-    (plain_stmt_complete expr_complete) depth (port_items_complete number_complete depth) (wire_items_complete EndsExpr comma_ends_expr semi_ends_expr expr_complete delays_complete depth)
-    (reg_items_complete number_complete depth)
+    (plain_stmt_complete expr_complete) depth (port_items_complete number_complete) (wire_items_complete EndsExpr comma_ends_expr semi_ends_expr expr_complete delays_complete depth)
+    (reg_items_complete number_complete)
 
 -- ---- designs
 

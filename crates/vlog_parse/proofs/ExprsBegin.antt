@@ -13,7 +13,7 @@ use Rattle.vlog_tree.specs.Spelling.Operators.{binary_operator, unary_operator}
 use Rattle.vlog_tree.specs.Spelling.Parts.{Commas, Is, IsName, IsNameBy, Production, terminal, terminal_by}
 use Rattle.vlog_parse.specs.Looks.{is_decimal, sees_decimal_before, sees_name}
 use Rattle.vlog_parse.specs.Reads.{next_terminal, sees}
-use Rattle.vlog_parse.specs.Terminals.{name_by, name_of}
+use Rattle.vlog_numbers.specs.Terminals.{name_by, name_of}
 use Rattle.vlog_parse.proofs.Rules.{sees_other}
 use Rattle.vlog_parse.proofs.Terminals.{based_free, decimal_free}
 

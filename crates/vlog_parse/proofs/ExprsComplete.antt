@@ -16,7 +16,7 @@ use Rattle.vlog_tree.specs.Spelling.Selects.{IsSelect}
 use Rattle.vlog_parse.specs.Chains.{binary_of, chain, of_level, one_binary, one_unary, operation, sees_binary, sees_unary, unary_of, unary_operators, wrap}
 use Rattle.vlog_parse.specs.Exprs.{braces, choice, conditional, expr, inner_brace, join, level, literal, parentheses, primary, reference, repeat, unary}
 use Rattle.vlog_parse.specs.Looks.{is_decimal, sees_decimal_before}
-use Rattle.vlog_parse.specs.Numbers.{sees_based}
+use Rattle.vlog_numbers.specs.Values.{sees_based}
 use Rattle.vlog_parse.specs.Reads.{Outcome, Parser, and_then, loop, next_terminal, one_more, sees, separated}
 use Rattle.vlog_parse.proofs.ChainLoops.{chain_goes_on, unary_begins}
 use Rattle.vlog_parse.proofs.ExprsBegin.{NoBrace, NoRepeat, commas_begin, expr_begins, expr_some, number_first}
@@ -27,7 +27,7 @@ use Rattle.vlog_parse.proofs.Loops.{GoesOn, begins, goes_on, same_whole, stops}
 use Rattle.vlog_parse.proofs.Numbers.{number_complete}
 use Rattle.vlog_parse.proofs.Rules.{◌>>=◌, Complete, expects, sees_is, sees_other, takes}
 use Rattle.vlog_parse.proofs.Selects.{select_complete, select_of_selected}
-use Rattle.vlog_parse.specs.Terminals.{is_size}
+use Rattle.vlog_numbers.specs.Terminals.{is_size}
 use Rattle.vlog_parse.proofs.Terminals.{count_decimal, decimals, name_found, name_free, names}
 
 -- ---- the next token

@@ -16,7 +16,8 @@ use Rattle.vlog_parse.specs.Looks.{sees_decimal_before, sees_name}
 use Rattle.vlog_parse.specs.Numbers.{number}
 use Rattle.vlog_parse.specs.Reads.{Parser, and_then, expect, loop, loop_from, one_more, refuse, sees, separated}
 use Rattle.vlog_parse.specs.Selects.{select, select_of}
-use Rattle.vlog_parse.specs.Terminals.{decimal, is_size, name}
+use Rattle.vlog_numbers.specs.Terminals.{is_size}
+use Rattle.vlog_parse.specs.Terminals.{decimal, name}
 use Rattle.vlog_parse.proofs.Lists.{separated_sound}
 use Rattle.vlog_parse.proofs.Numbers.{number_sound}
 use Rattle.vlog_parse.proofs.Rules.{◌>>=◌, Sound, Took, found_is, left_is, mark_took, take_took, then_took}

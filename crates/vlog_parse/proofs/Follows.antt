@@ -7,7 +7,7 @@ use Rattle.vlog_tokens.specs.declared.token.TokenKind.TheVariants.{Word, Escaped
 use Rattle.vlog_tree.specs.Spelling.Operators.{binary_operator}
 use Rattle.vlog_tree.specs.Spelling.Parts.{Is, terminal, terminal_by}
 use Rattle.vlog_parse.specs.Chains.{of_level, sees_binary}
-use Rattle.vlog_parse.specs.Numbers.{is_based_kind, sees_based}
+use Rattle.vlog_numbers.specs.Values.{is_based_kind, sees_based}
 use Rattle.vlog_parse.specs.Reads.{next_terminal, sees}
 
 -- `) } , ; :`, one of which stands after an expression

@@ -3,8 +3,8 @@ use Rattle.std.proofs.Common.{◌≡◌, List, [], codes, Ok, Err, Result, IsErr
 use Rattle.vlog_tokens.specs.Toks.{Tok}
 use Rattle.vlog_parse.specs.Gathers.{add, add_after_comma, gathered}
 use Rattle.vlog_parse.specs.Reads.{Outcome, Parser, Reads, ReadsInto, and_then, loop, sees}
-use Rattle.vlog_parse.specs.declared.fault.Fault.{Fault}
-use Rattle.vlog_parse.specs.declared.fault.Fault.TheVariants as fault
+use Rattle.vlog_numbers.specs.declared.fault.Fault.{Fault}
+use Rattle.vlog_numbers.specs.declared.fault.Fault.TheVariants as fault
 
 module _ {A B : Type 0} (items_of : A → List B) (part : Parser A) (ts : List Tok) (none : List B) (is_none : none ≡ []) where
   abbrev Rest : Outcome (List B) → Outcome (List B)

@@ -8,7 +8,8 @@ use Rattle.vlog_tree.specs.Spelling.Numbers.{IsNumber}
 use Rattle.vlog_tree.specs.Spelling.Parts.{Commas, Is, IsName, One, terminal}
 use Rattle.vlog_parse.specs.Declarations.{is_direction, port_shape}
 use Rattle.vlog_parse.specs.Modules.{add_port, add_port_after_comma, any_header, declared_ports, in_parentheses, inner_header, named_ports, next_shape, no_ports, port_list}
-use Rattle.vlog_parse.specs.Numbers.{number, sees_based}
+use Rattle.vlog_numbers.specs.Values.{sees_based}
+use Rattle.vlog_parse.specs.Numbers.{number}
 use Rattle.vlog_parse.specs.Reads.{Outcome, Parser, and_then, loop, loop_from, sees, separated}
 use Rattle.vlog_parse.specs.Terminals as terminals
 use Rattle.vlog_parse.specs.declared.header.Header.{Header}

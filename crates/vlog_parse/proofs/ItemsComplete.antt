@@ -28,9 +28,11 @@ use Rattle.vlog_parse.specs.Declarations.{port_items, reg_items, wire_items}
 use Rattle.vlog_parse.specs.Delays.{any_delay}
 use Rattle.vlog_parse.specs.Exprs.{expr}
 use Rattle.vlog_parse.specs.Gates.{input_gate, instance, output_gate}
-use Rattle.vlog_parse.specs.Items.{always, any_token, assign, assigns, gates_by, gates_or_instances, initial, input_gates, instances, item, items_by, other_items, output_gates}
+use Rattle.vlog_parse.specs.Items.{always, assign, assigns, gates_by, gates_or_instances, initial, input_gates, instances, item, items_by, other_items, output_gates}
+use Rattle.vlog_parse.specs.Looks.{any_token}
 use Rattle.vlog_parse.specs.Lefts.{left}
-use Rattle.vlog_parse.specs.Numbers.{is_based_kind, number, sees_based}
+use Rattle.vlog_numbers.specs.Values.{is_based_kind, sees_based}
+use Rattle.vlog_parse.specs.Numbers.{number}
 use Rattle.vlog_parse.specs.Reads.{next_terminal, sees}
 use Rattle.vlog_parse.specs.Stmts.{stmt}
 use Rattle.vlog_parse.proofs.Fronts.{left_begins, number_begins, place_front}
@@ -187,11 +189,11 @@ directed text dir h = by (bytes_eq text (codes "input")) (bytes_eq text (codes "
     by false true k l = rw (k, l) refl
     by false false k l = (let nothing = rw (k, l) at h in cc)
 
-port_items_by : (depth : ℕ) (ts : List Tok) (text : List ℕ) → (bytes_eq text (codes "input") || bytes_eq text (codes "output")) ≡ true → items_by depth text ts ≡ port_items depth ts
+port_items_by : (depth : ℕ) (ts : List Tok) (text : List ℕ) → (bytes_eq text (codes "input") || bytes_eq text (codes "output")) ≡ true → items_by depth text ts ≡ port_items ts
 unfolding items_by
 port_items_by depth ts text h = rw h refl
 
-port_next : (depth : ℕ) (ss : List Tok) (shape : Shape) (rest : List Tok) → IsPortShape ss shape → item depth (ss ++ rest) ≡ port_items depth (ss ++ rest)
+port_next : (depth : ℕ) (ss : List Tok) (shape : Shape) (rest : List Tok) → IsPortShape ss shape → item depth (ss ++ rest) ≡ port_items (ss ++ rest)
 port_next depth _ _ rest (IsPortShape.port_shape word ks rs dir kind range h k r) =
     item_by depth (word ∷ ((ks ++ rs) ++ rest)) (terminal word) refl ∙ port_items_by depth (word ∷ ((ks ++ rs) ++ rest)) (terminal word) (directed (terminal word) dir h)
 
@@ -199,7 +201,7 @@ wire_next : (depth : ℕ) (word : Tok) (rest : List Tok) → Is (codes "wire") w
 unfolding items_by
 wire_next depth word rest h = item_by depth (word ∷ rest) (codes "wire") h
 
-reg_next : (depth : ℕ) (word : Tok) (rest : List Tok) → Is (codes "reg") word → item depth (word ∷ rest) ≡ reg_items depth (word ∷ rest)
+reg_next : (depth : ℕ) (word : Tok) (rest : List Tok) → Is (codes "reg") word → item depth (word ∷ rest) ≡ reg_items (word ∷ rest)
 unfolding items_by
 reg_next depth word rest h = item_by depth (word ∷ rest) (codes "reg") h
 
@@ -315,15 +317,15 @@ module _ (EndsExpr : List Tok → Type 0) (expr_complete : (depth : ℕ) → Com
         -- Each item that tokens spell is read, where no `else` follows that a statement could take.
         pub item_complete : (depth : ℕ)
             → ((ss ns : List Tok) (semi : Tok) (shape : Shape) (parts : List Declared) (rest : List Tok) → IsPortShape ss shape → Commas (IsRegister shape.kind) ns parts → Is (codes ";") semi
-            → port_items depth ((ss ++ (ns ++ semi ∷ [])) ++ rest) ≡ Ok (flat_map (declarations.register_items shape) parts, rest))
+            → port_items ((ss ++ (ns ++ semi ∷ [])) ++ rest) ≡ Ok (flat_map (declarations.register_items shape) parts, rest))
             → ((word : Tok) (rs ds ns : List Tok) (semi : Tok) (found : Option Range) (parts : List Declared) (rest : List Tok) → Is (codes "wire") word → Optional IsRange rs found → IsAnyDelay ds → Commas IsWire ns parts → length ns ≤ depth → Is (codes ";") semi
             → wire_items depth ((word ∷ (rs ++ (ds ++ (ns ++ semi ∷ [])))) ++ rest) ≡ Ok (flat_map (declarations.wire_items (record { dir = None; kind = kinds.Wire; range = found })) parts, rest))
             → ((word : Tok) (rs ns : List Tok) (semi : Tok) (found : Option Range) (parts : List Declared) (rest : List Tok) → Is (codes "reg") word → Optional IsRange rs found → Commas (IsRegister kinds.Reg) ns parts → Is (codes ";") semi
-            → reg_items depth ((word ∷ (rs ++ (ns ++ semi ∷ []))) ++ rest) ≡ Ok (flat_map (declarations.register_items (record { dir = None; kind = kinds.Reg; range = found })) parts, rest))
+            → reg_items ((word ∷ (rs ++ (ns ++ semi ∷ []))) ++ rest) ≡ Ok (flat_map (declarations.register_items (record { dir = None; kind = kinds.Reg; range = found })) parts, rest))
             → Complete (λ rest. sees (codes "else") rest ≡ false) depth (item depth) IsItem
         item_complete depth ports wires regs _ _ rest (IsItem.port ss ns semi shape parts s t h) fits ends =
             let whole : (ss ++ (ns ++ semi ∷ [])) ++ rest ≡ ss ++ ((ns ++ semi ∷ []) ++ rest) = append_assoc ss (ns ++ semi ∷ []) rest in
-            ap (item depth) whole ∙ port_next depth ss shape ((ns ++ semi ∷ []) ++ rest) s ∙ ap (port_items depth) (sym whole) ∙ ports ss ns semi shape parts rest s t h
+            ap (item depth) whole ∙ port_next depth ss shape ((ns ++ semi ∷ []) ++ rest) s ∙ ap port_items (sym whole) ∙ ports ss ns semi shape parts rest s t h
         item_complete depth ports wires regs _ _ rest (IsItem.wire word rs ds ns semi found parts h r d s g) fits ends =
             let small : length ns ≤ depth = three_fit rs ds ns semi depth (omega arith) in
             wire_next depth word ((rs ++ (ds ++ (ns ++ semi ∷ []))) ++ rest) h ∙ wires word rs ds ns semi found parts rest h r d s small g

@@ -18,7 +18,8 @@ use Rattle.vlog_parse.specs.Declarations.{port_items, reg_items, wire_items}
 use Rattle.vlog_parse.specs.Delays.{any_delay}
 use Rattle.vlog_parse.specs.Exprs.{expr}
 use Rattle.vlog_parse.specs.Gates.{input_gate, instance, output_gate}
-use Rattle.vlog_parse.specs.Items.{always, any_token, assign, assigns, gates_by, gates_or_instances, initial, input_gates, instances, item, items_by, other_items, output_gates}
+use Rattle.vlog_parse.specs.Items.{always, assign, assigns, gates_by, gates_or_instances, initial, input_gates, instances, item, items_by, other_items, output_gates}
+use Rattle.vlog_parse.specs.Looks.{any_token}
 use Rattle.vlog_parse.specs.Lefts.{left}
 use Rattle.vlog_parse.specs.Numbers.{number}
 use Rattle.vlog_parse.specs.Reads.{next_terminal, separated}
@@ -182,14 +183,14 @@ module _ (expr_sound : (depth : ℕ) → Sound (expr depth) SpellsExpr) (left_so
         by false false false h k l = gates_or_instances_sound depth ts items rest (rw (h, k, l) at e)
 
     -- What an item reads is an item, if what declarations read is.
-    pub item_sound : ((depth : ℕ) → Sound (port_items depth) IsItem) → ((depth : ℕ) → Sound (wire_items depth) IsItem) → ((depth : ℕ) → Sound (reg_items depth) IsItem) → (depth : ℕ) → Sound (item depth) IsItem
+    pub item_sound : Sound port_items IsItem → ((depth : ℕ) → Sound (wire_items depth) IsItem) → Sound reg_items IsItem → (depth : ℕ) → Sound (item depth) IsItem
     unfolding item items_by
     item_sound port_sound wire_sound reg_sound depth ts items rest e =
         by (bytes_eq (next_terminal ts) (codes "input") || bytes_eq (next_terminal ts) (codes "output")) (bytes_eq (next_terminal ts) (codes "wire")) (bytes_eq (next_terminal ts) (codes "reg")) refl refl refl
       where
         by : (a b c : Bool) → (bytes_eq (next_terminal ts) (codes "input") || bytes_eq (next_terminal ts) (codes "output")) ≡ a → bytes_eq (next_terminal ts) (codes "wire") ≡ b → bytes_eq (next_terminal ts) (codes "reg") ≡ c
             → Took IsItem ts items rest
-        by true b c h k l = port_sound depth ts items rest (rw h at e)
+        by true b c h k l = port_sound ts items rest (rw h at e)
         by false true c h k l = wire_sound depth ts items rest (rw (h, k) at e)
-        by false false true h k l = reg_sound depth ts items rest (rw (h, k, l) at e)
+        by false false true h k l = reg_sound ts items rest (rw (h, k, l) at e)
         by false false false h k l = other_items_sound depth ts items rest (rw (h, k, l) at e)

@@ -1,6 +1,5 @@
 pub mod AmongLemmas
 pub mod ChainLoops
-pub mod DecimalValues
 pub mod DeclarationsComplete
 pub mod DeclarationsSound
 pub mod DelaysComplete
@@ -11,7 +10,6 @@ pub mod ExprStarts
 pub mod ExprsBegin
 pub mod ExprsComplete
 pub mod ExprsSound
-pub mod Fills
 pub mod Follows
 pub mod Fronts
 pub mod GatesComplete

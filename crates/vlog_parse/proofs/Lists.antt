@@ -1,4 +1,4 @@
--- Lists are read all_of their productions say, both ways, if their items are.
+-- Lists are read as their productions say, both ways, if their items are.
 use Rattle.std.proofs.Common.{◌≡◌, ◌≤◌, ◌<◌, ℕ, zero, suc, Bool, true, false, not, List, [], ◌∷◌, ◌++◌, length, codes, Ok, refl, sym, ap, ◌∙◌, subst, append_assoc, append-nil, length-append, arith}
 use Rattle.vlog_tokens.specs.Toks.{Tok}
 use Rattle.vlog_tree.specs.Spelling.Parts.{Commas, Is, Many, Production}

@@ -56,13 +56,13 @@ module _ {n m : ℕ} where
   unfolding registers
   registers_both shape = later_both (gathered_local (spelling.register_items shape) (register_local shape.kind)) (λ items. mark_both (codes ";") (λ _. pure_local items))
 
-  pub port_items_both : (depth depth2 : ℕ) → Both n m (port_items depth) (port_items depth2)
+  pub port_items_both : Both n m port_items port_items
   unfolding port_items
-  port_items_both depth depth2 = later_both port_shape_local registers_both
+  port_items_both = later_both port_shape_local registers_both
 
-  pub reg_items_both : (depth depth2 : ℕ) → Both n m (reg_items depth) (reg_items depth2)
+  pub reg_items_both : Both n m reg_items reg_items
   unfolding reg_items
-  reg_items_both depth depth2 = mark_both (codes "reg") (λ _. then_local any_range_local (λ range. (registers_both (record { dir = None; kind = Reg; range = range })).local))
+  reg_items_both = mark_both (codes "reg") (λ _. then_local any_range_local (λ range. (registers_both (record { dir = None; kind = Reg; range = range })).local))
 
 module _ {n m : ℕ} (depth depth2 : ℕ) (low : n ≤ depth) (low2 : m ≤ depth2) where
   wire_value_local : Local n m (wire_value depth) (wire_value depth2)

@@ -11,11 +11,13 @@ use Rattle.vlog_tree.specs.Spelling.Lefts.{assigned}
 use Rattle.vlog_tree.specs.Spelling.Parts.{terminal}
 use Rattle.vlog_parse.specs.Chains.{chain, operation, sees_binary, unary_operators}
 use Rattle.vlog_parse.specs.Exprs.{conditional, expr, level, literal, primary, unary}
-use Rattle.vlog_parse.specs.Numbers.{decimal_number, number, sees_based, sized_digits, sized_number}
+use Rattle.vlog_numbers.specs.Values.{sees_based}
+use Rattle.vlog_parse.specs.Numbers.{decimal_number, number, sized_digits, sized_number}
 use Rattle.vlog_parse.specs.Lefts as lefts
 use Rattle.vlog_parse.specs.Reads.{Parser, and_then, loop, loop_from, pure, refuse, sees, take_if, taken_by}
 use Rattle.vlog_parse.specs.Selects.{select_of}
-use Rattle.vlog_parse.specs.Terminals.{decimal, decimal_of, name_by, name_of}
+use Rattle.vlog_numbers.specs.Terminals.{decimal_of, name_by, name_of}
+use Rattle.vlog_parse.specs.Terminals.{decimal}
 use Rattle.vlog_parse.proofs.LocalExprs.{Firsts, Past, conditional_local, ended_local, level_loop, only_keeps, past_as, past_then}
 use Rattle.vlog_parse.proofs.LocalLoops.{separated_local}
 use Rattle.vlog_parse.proofs.LocalNumbers.{digits_local, name_local, no_decimal, select_local}

@@ -12,7 +12,7 @@ use Rattle.vlog_parse.specs.Exprs.{braces, choice, conditional, inner_brace, joi
 use Rattle.vlog_parse.specs.Looks.{is_decimal, sees_decimal_before, sees_name}
 use Rattle.vlog_parse.specs.Reads.{◌>>=◌, ◌>>◌, Outcome, Parser, and_then, expect, loop, one_more, one_more_after_comma, pure, refuse, sees, separated}
 use Rattle.vlog_parse.specs.Selects.{select_of}
-use Rattle.vlog_parse.specs.Terminals.{decimal_of, is_size}
+use Rattle.vlog_numbers.specs.Terminals.{decimal_of, is_size}
 use Rattle.vlog_parse.proofs.LocalLoops.{Takes, expect_takes, first_takes, loop_local, many_local, one_more_local, separated_local, take_takes}
 use Rattle.vlog_parse.proofs.LocalNumbers.{decimal_local, name_local, no_decimal, number_local, select_local, starts_decimal}
 use Rattle.vlog_parse.proofs.Locals.{Keeps, Local, ending, expect_local, expected_local, here_local, if_local, pure_local, refuse_local, same_found, same_left, take_local, then_local}

@@ -6,7 +6,8 @@ use Rattle.vlog_tree.specs.declared.expr.Expr.TheVariants as expr
 use Rattle.vlog_tree.specs.declared.item.GateKind.{GateKind}
 use Rattle.vlog_tree.specs.declared.item.Item.TheVariants.{Assign, Always, Initial}
 use Rattle.vlog_tree.specs.Spelling.Gates as tables
-use Rattle.vlog_parse.specs.Items.{always, any_token, assign, assigns, gates_by, gates_or_instances, initial, input_gates, instances, item, items_by, other_items, output_gates}
+use Rattle.vlog_parse.specs.Items.{always, assign, assigns, gates_by, gates_or_instances, initial, input_gates, instances, item, items_by, other_items, output_gates}
+use Rattle.vlog_parse.specs.Looks.{any_token}
 use Rattle.vlog_parse.specs.Modules.{design, module_rule, modules}
 use Rattle.vlog_parse.specs.Reads.{is_end, loop, loop_from, next_terminal}
 use Rattle.vlog_parse.proofs.LocalBoths.{Both, by_both, choose_both, expected_both, first_both, later_both, mark_both}
@@ -71,8 +72,8 @@ module _ (n m : ℕ) where
   items_by_both : (text : List ℕ) → Both n m (items_by (suc n) text) (items_by (suc m) text)
   unfolding items_by
   items_by_both text =
-      choose_both (bytes_eq text (codes "input") || bytes_eq text (codes "output")) (port_items_both (suc n) (suc m)) (choose_both (bytes_eq text (codes "wire")) (wire_items_both (suc n) (suc m) (omega arith) (omega arith))
-      (choose_both (bytes_eq text (codes "reg")) (reg_items_both (suc n) (suc m)) (other_items_both text)))
+      choose_both (bytes_eq text (codes "input") || bytes_eq text (codes "output")) port_items_both (choose_both (bytes_eq text (codes "wire")) (wire_items_both (suc n) (suc m) (omega arith) (omega arith))
+      (choose_both (bytes_eq text (codes "reg")) reg_items_both (other_items_both text)))
 
   item_both : Both n m (item (suc n)) (item (suc m))
   unfolding item

@@ -2,10 +2,13 @@
 use Rattle.std.proofs.Common.{◌≡◌, ◌<◌, ◌+◌, ℕ, Bool, true, false, List, [], ◌∷◌, ◌++◌, length, codes, Option, Some, None, Err, if◌then◌else◌, refl, sym, ap, ◌∙◌, arith}
 use Rattle.vlog_tokens.specs.Toks.{Tok}
 use Rattle.vlog_parse.specs.Delays.{any_delay, delay, parted, several, single, values}
-use Rattle.vlog_parse.specs.Numbers.{decimal_number, is_based_kind, number, sees_based, sees_size, sized_digits, sized_number, sized_of, unsized_number, unsized_of}
+use Rattle.vlog_numbers.specs.Values.{is_based_kind, sees_based, sized_of, unsized_of}
+use Rattle.vlog_parse.specs.Numbers.{decimal_number, number, sized_digits, sized_number, unsized_number}
+use Rattle.vlog_parse.specs.Looks.{sees_size}
 use Rattle.vlog_parse.specs.Reads.{Parser, and_then, refuse, sees, take_if, taken_by}
 use Rattle.vlog_parse.specs.Selects.{bit_after, bracketed, part_after, range, range_after, select, select_after}
-use Rattle.vlog_parse.specs.Terminals.{decimal, decimal_of, is_size, name, name_of}
+use Rattle.vlog_numbers.specs.Terminals.{decimal_of, is_size, name_of}
+use Rattle.vlog_parse.specs.Terminals.{decimal, name}
 use Rattle.vlog_parse.proofs.LocalLoops.{Takes, separated_local, take_takes}
 use Rattle.vlog_parse.proofs.Locals.{Keeps, Local, ending, expect_local, if_local, never_longer, pure_local, refuse_local, same_found, take_local, then_local}
 

@@ -2,8 +2,8 @@
 use Rattle.std.proofs.Common.{◌≡◌, ◌<◌, ℕ, zero, suc, Bool, true, false, not, List, [], codes, length, Ok, Err, Result, IsErr, IsErrAnd, ap, sym, ◌∙◌, refl, arith}
 use Rattle.vlog_tokens.specs.Toks.{Tok}
 use Rattle.vlog_parse.specs.Reads.{Outcome, Parser, Reads, ReadsInto, and_then, loop, loop_from, one_more, one_more_after_comma, repeated_until, sees, separated}
-use Rattle.vlog_parse.specs.declared.fault.Fault.{Fault}
-use Rattle.vlog_parse.specs.declared.fault.Fault.TheVariants as fault
+use Rattle.vlog_numbers.specs.declared.fault.Fault.{Fault}
+use Rattle.vlog_numbers.specs.declared.fault.Fault.TheVariants as fault
 
 module _ {S : Type 0} (goes : List Tok → Bool) (step : S → Parser S) where
   -- What the loop reads from here on is what the whole reads.

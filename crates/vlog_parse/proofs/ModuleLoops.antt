@@ -8,8 +8,8 @@ use Rattle.vlog_parse.specs.Declarations.{port_shape}
 use Rattle.vlog_parse.specs.Gathers.{add, gathered_until}
 use Rattle.vlog_parse.specs.Modules.{add_port, add_port_after_comma, module_rule, modules, port_list}
 use Rattle.vlog_parse.specs.Reads.{Outcome, Parser, ReadsInto, is_end, loop, one_more, sees}
-use Rattle.vlog_parse.specs.declared.fault.Fault.{Fault}
-use Rattle.vlog_parse.specs.declared.fault.Fault.TheVariants as fault
+use Rattle.vlog_numbers.specs.declared.fault.Fault.{Fault}
+use Rattle.vlog_numbers.specs.declared.fault.Fault.TheVariants as fault
 use Rattle.vlog_parse.specs.declared.port.Ports.{Ports}
 use Rattle.vlog_parse.proofs.Loops.{GoesOn, fails}
 

@@ -12,7 +12,8 @@ use Rattle.vlog_tree.specs.Spelling.Parts.{Is, Many}
 use Rattle.vlog_parse.specs.Gathers.{gathered_until}
 use Rattle.vlog_parse.specs.Items as rule
 use Rattle.vlog_parse.specs.Modules.{design, module_rule, modules}
-use Rattle.vlog_parse.specs.Numbers.{number, sees_based}
+use Rattle.vlog_numbers.specs.Values.{sees_based}
+use Rattle.vlog_parse.specs.Numbers.{number}
 use Rattle.vlog_parse.specs.Reads.{is_end, loop, one_more, sees}
 use Rattle.vlog_parse.proofs.Gathered.{until_complete}
 use Rattle.vlog_parse.proofs.HeadersComplete.{header_complete}

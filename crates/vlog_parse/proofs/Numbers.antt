@@ -1,20 +1,18 @@
 -- What `number` reads is a number, and each number is read.
 use Rattle.std.proofs.Common.{◌≡◌, ◌⊎◌, inl, inr, ℕ, Bool, true, false, not, List, [], ◌∷◌, ◌++◌, ◌==◌, drop, Option, Some, None, Ok, if◌then◌else◌, option_map, refl, sym, ap, ◌∙◌, subst}
 use Rattle.std.specs.Option.{option_and_then}
-use Rattle.std.specs.Int.{bit_at}
 use Rattle.std.specs.List.{list_all}
-use Rattle.std.proofs.lemmas.List.FromFn.{length-map-range_with_len}
 use Rattle.vlog_tokens.specs.Toks.{Tok}
 use Rattle.vlog_tokens.specs.declared.token.TokenKind.{TokenKind}
 use Rattle.vlog_tokens.specs.declared.token.TokenKind.TheVariants.{Word, Escaped, System, Decimal, Based, Text, Mark}
 use Rattle.vlog_tree.specs.Spelling.Parts.{terminal, terminal_by}
 use Rattle.vlog_tree.specs.Spelling.Numbers.{IsBased, IsNumber, at_width, based_value, bits_of}
 use Rattle.vlog_parse.specs.Reads.{Outcome, and_then, next_terminal, refuse, take_if}
-use Rattle.vlog_parse.specs.Terminals.{decimal, is_size, name_by, name_of}
-use Rattle.vlog_parse.specs.Numbers.{based_by, based_of, decimal_number, in_word, is_based_kind, number, sees_based, sees_size, sized_digits, sized_number, sized_of, unsized_number, unsized_of}
-use Rattle.vlog_parse.specs.Fill.{Holds}
-use Rattle.vlog_parse.specs.declared.row.Row.{Row}
-use Rattle.vlog_parse.proofs.Fills.{same_width}
+use Rattle.vlog_numbers.specs.Terminals.{is_size, name_by, name_of}
+use Rattle.vlog_parse.specs.Terminals.{decimal}
+use Rattle.vlog_numbers.specs.Values.{based_by, based_of, in_word, is_based_kind, sees_based, sized_of, unsized_of}
+use Rattle.vlog_parse.specs.Numbers.{decimal_number, number, sized_digits, sized_number, unsized_number}
+use Rattle.vlog_parse.specs.Looks.{sees_size}
 use Rattle.vlog_parse.proofs.Rules.{◌>>=◌, Sound, Took, found_is, left_is, take_took, takes, then_took}
 use Rattle.vlog_parse.proofs.Terminals.{based_free, count_decimal, count_is, decimal_free, decimals, decimal_took}
 
@@ -176,8 +174,3 @@ unbased_by Mark text h = refl
 pub unbased : (ts : List Tok) → (next_terminal ts ≡ [] → ⊥) → sees_based ts ≡ false
 unbased [] h = refl
 unbased (tok ∷ rest) h = unbased_by tok.kind tok.text h
-
--- ---- what the code gives
-
-pub row_reads : (ts left : List Tok) (value : ℕ) (row : Row) → decimal ts ≡ Ok (value, left) → Holds 32 row (bits_of 32 value) → decimal_number ts ≡ Ok (row.bits, left)
-row_reads ts left value row e h = decimal_reads ts left value e ∙ ap (λ (bits : List Bool). Ok (bits, left)) (sym (h.bits ∙ same_width (bits_of 32 value) 32 (length-map-range_with_len (λ i. bit_at value i == 1) 0 32)))

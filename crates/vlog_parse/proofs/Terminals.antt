@@ -10,7 +10,8 @@ use Rattle.vlog_tokens.specs.Toks.{Tok}
 use Rattle.vlog_tokens.specs.declared.token.TokenKind.{TokenKind}
 use Rattle.vlog_tokens.specs.declared.token.TokenKind.TheVariants.{Word, Escaped, System, Decimal, Based, Text, Mark}
 use Rattle.vlog_tree.specs.Spelling.Parts.{IsCount, IsDecimal, IsName, IsNameBy, decimal_value, terminal, terminal_by}
-use Rattle.vlog_parse.specs.Terminals.{decimal, decimal_between, decimal_of, is_size, name, name_by, name_of, number_by, unescaped}
+use Rattle.vlog_numbers.specs.Terminals.{decimal_between, decimal_of, is_size, name_by, name_of, number_by, unescaped}
+use Rattle.vlog_parse.specs.Terminals.{decimal, name}
 use Rattle.vlog_parse.proofs.Rules.{take_took, takes}
 
 -- ---- reserved words

@@ -4,8 +4,8 @@ use Rattle.vlog_tokens.specs.Toks.{Tok}
 use Rattle.vlog_parse.specs.Attempts.{attempt, attempt_by}
 use Rattle.vlog_parse.specs.Gates.{is_read}
 use Rattle.vlog_parse.specs.Reads.{Outcome, Parser, ReadsInto, and_then, one_more}
-use Rattle.vlog_parse.specs.declared.fault.Fault.{Fault}
-use Rattle.vlog_parse.specs.declared.fault.Fault.TheVariants as fault
+use Rattle.vlog_numbers.specs.declared.fault.Fault.{Fault}
+use Rattle.vlog_numbers.specs.declared.fault.Fault.TheVariants as fault
 use Rattle.vlog_parse.proofs.Loops.{GoesOn, fails, goes_on, stops}
 use Rattle.vlog_parse.proofs.Rules.{found_is, left_is}
 

@@ -108,8 +108,8 @@ wires depth shape = do
   pure items
 
 -- dir kind? range? pname,+ ";"
-unfoldable pub port_items : ℕ → Parser (List Item)
-port_items depth = do
+unfoldable pub port_items : Parser (List Item)
+port_items = do
   shape ← port_shape
   registers shape
 
@@ -122,8 +122,8 @@ wire_items depth = do
   wires depth (record { dir = None; kind = Wire; range = range })
 
 -- "reg" range? pname,+ ";"
-unfoldable pub reg_items : ℕ → Parser (List Item)
-reg_items depth = do
+unfoldable pub reg_items : Parser (List Item)
+reg_items = do
   expect (codes "reg")
   range ← any_range
   registers (record { dir = None; kind = Reg; range = range })

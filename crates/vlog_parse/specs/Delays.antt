@@ -1,6 +1,6 @@
 -- What delays read.
 use Rattle.std.specs.Prelude.{codes, Ok, Err, if◌then◌else◌}
-use Rattle.vlog_parse.specs.Numbers.{sees_based}
+use Rattle.vlog_numbers.specs.Values.{sees_based}
 use Rattle.vlog_parse.specs.Reads.{Parser, ◌>>◌, expect, pure, sees, separated}
 use Rattle.vlog_parse.specs.Terminals.{decimal}
 

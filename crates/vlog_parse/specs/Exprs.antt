@@ -8,7 +8,8 @@ use Rattle.vlog_parse.specs.Looks.{sees_name, sees_decimal_before}
 use Rattle.vlog_parse.specs.Numbers.{number}
 use Rattle.vlog_parse.specs.Reads.{Parser, ◌>>=◌, ◌>>◌, pure, refuse, here, expect, sees, separated}
 use Rattle.vlog_parse.specs.Selects.{select, select_of}
-use Rattle.vlog_parse.specs.Terminals.{decimal, is_size, name}
+use Rattle.vlog_numbers.specs.Terminals.{is_size}
+use Rattle.vlog_parse.specs.Terminals.{decimal, name}
 use Rattle.vlog_tokens.specs.Toks.{Tok}
 
 unfoldable pub literal : Parser Expr

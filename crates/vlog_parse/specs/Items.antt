@@ -6,14 +6,14 @@ use Rattle.vlog_tree.specs.declared.item.GateKind.{GateKind}
 use Rattle.vlog_tree.specs.declared.item.Item.{Item}
 use Rattle.vlog_tree.specs.declared.item.Item.TheVariants.{Assign, Always, Initial}
 use Rattle.vlog_tree.specs.Spelling.Gates as tables
-use Rattle.vlog_tokens.specs.Toks.{Tok}
 use Rattle.vlog_parse.specs.Declarations.{port_items, reg_items, wire_items}
 use Rattle.vlog_parse.specs.Delays.{any_delay}
 use Rattle.vlog_parse.specs.Exprs as exprs
 use Rattle.vlog_parse.specs.Gates.{input_gate, instance, output_gate}
 use Rattle.vlog_parse.specs.Lefts.{left}
+use Rattle.vlog_parse.specs.Looks.{any_token}
 use Rattle.vlog_parse.specs.Numbers.{number}
-use Rattle.vlog_parse.specs.Reads.{Parser, ◌>>=◌, ◌>>◌, pure, here, expect, next_terminal, separated, take_if}
+use Rattle.vlog_parse.specs.Reads.{Parser, ◌>>=◌, ◌>>◌, pure, here, expect, next_terminal, separated}
 use Rattle.vlog_parse.specs.Stmts.{stmt}
 use Rattle.vlog_parse.specs.Terminals.{name}
 
@@ -34,10 +34,6 @@ assigns depth = do
   found ← separated (assign depth)
   expect (codes ";")
   pure found
-
--- the next token, whatever it is
-unfoldable pub any_token : Parser Tok
-any_token = take_if Some
 
 -- the word of a gate and then delay? agate,+ ";"
 unfoldable pub input_gates : ℕ → GateKind → Parser (List Item)
@@ -110,9 +106,9 @@ other_items depth text =
 -- any item, by the word that it begins with
 unfoldable pub items_by : ℕ → List ℕ → Parser (List Item)
 items_by depth text =
-    if bytes_eq text (codes "input") || bytes_eq text (codes "output") then port_items depth
+    if bytes_eq text (codes "input") || bytes_eq text (codes "output") then port_items
     else (if bytes_eq text (codes "wire") then wire_items depth
-    else (if bytes_eq text (codes "reg") then reg_items depth
+    else (if bytes_eq text (codes "reg") then reg_items
     else other_items depth text))
 
 unfoldable pub item : ℕ → Parser (List Item)

@@ -3,7 +3,6 @@ pub mod Chains
 pub mod Declarations
 pub mod Delays
 pub mod Exprs
-pub mod Fill
 pub mod Gates
 pub mod Gathers
 pub mod Items
@@ -13,7 +12,6 @@ pub mod Looks
 pub mod Modules
 pub mod Nest
 pub mod Nests
-pub mod NumberFaults
 pub mod Numbers
 pub mod Outside
 pub mod Places

@@ -1,23 +1,24 @@
 -- How deep tokens nest. At a token the count is the sum of three: what is open, the operators since the last `;`, and each `if` since the last `always`.
-use Rattle.std.specs.Prelude.{ℕ, ◌+◌, ◌-◌, nat_lt, List, [], ◌∷◌, ◌++◌, codes, Option, Some, None, if◌then◌else◌, map}
+use Rattle.std.specs.Prelude.{ℕ, ◌+◌, ◌-◌, nat_lt, List, [], ◌∷◌, ◌++◌, codes, Option, Some, None, if◌then◌else◌}
 use Rattle.std.specs.List.{fold}
 use Rattle.std.specs.Str.{bytes_eq}
 use Rattle.vlog_tokens.specs.Toks.{Tok}
 use Rattle.vlog_words.specs.Words.{is_text_among}
 use Rattle.vlog_tree.specs.Spelling.Parts.{terminal}
-use Rattle.vlog_parse.specs.declared.nest.TheConstants.{CLOSINGS, OPENINGS, OPERATORS}
 
 -- what opens
 unfoldable pub openings : List (List ℕ)
-openings = map (λ text. text.now) OPENINGS
+openings = codes "(" ∷ codes "{" ∷ codes "begin" ∷ []
 
 -- what closes one if any is open
 unfoldable pub closings : List (List ℕ)
-closings = map (λ text. text.now) CLOSINGS
+closings = codes ")" ∷ codes "}" ∷ codes "end" ∷ []
 
 -- the operators that count
 unfoldable pub operators : List (List ℕ)
-operators = map (λ text. text.now) OPERATORS
+operators =
+    codes "~" ∷ codes "!" ∷ codes "&" ∷ codes "|" ∷ codes "^" ∷ codes "&&" ∷ codes "||" ∷ codes "==" ∷ codes "!="
+    ∷ codes "~&" ∷ codes "~|" ∷ codes "~^" ∷ codes "^~" ∷ codes "?" ∷ []
 
 -- how many are open after the reserved word or mark
 abbrev pub open_after : ℕ → List ℕ → ℕ

@@ -6,7 +6,7 @@ use Rattle.vlog_tokens.specs.Toks.{Tok}
 use Rattle.vlog_tree.specs.declared.expr.Expr.{Expr}
 use Rattle.vlog_parse.specs.Exprs.{expr}
 use Rattle.vlog_parse.specs.Reads.{Reads}
-use Rattle.vlog_parse.specs.declared.fault.Fault.{Fault}
+use Rattle.vlog_numbers.specs.declared.fault.Fault.{Fault}
 
 pub record Nests (depth : ℕ) (pre : Global → MutBor (List Tok) → ℕ → Type 0)
     (post : Global → MutBor (List Tok) → ℕ → Result Expr Fault → MutBor (List Tok) → Type 0) : Type 0 where

@@ -4,8 +4,8 @@ use Rattle.std.specs.Str.{bytes_eq}
 use Rattle.vlog_tokens.specs.Toks.{Tok, tok_of}
 use Rattle.vlog_tokens.specs.declared.token.Token.{Token}
 use Rattle.vlog_tree.specs.Spelling.Parts.{place_of, terminal}
-use Rattle.vlog_parse.specs.declared.fault.Fault.{Fault}
-use Rattle.vlog_parse.specs.declared.fault.Fault.TheVariants as fault
+use Rattle.vlog_numbers.specs.declared.fault.Fault.{Fault}
+use Rattle.vlog_numbers.specs.declared.fault.Fault.TheVariants as fault
 
 -- what was read and what is left, or else what is left from the first token on that does not fit
 abbrev pub Outcome : Type 0 → Type 0

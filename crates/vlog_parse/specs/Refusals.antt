@@ -2,7 +2,7 @@
 use Rattle.std.specs.Prelude.{◌≡◌, List, Some, None}
 use Rattle.vlog_tokens.specs.Toks.{Lexed, Tok}
 use Rattle.vlog_parse.specs.Nest.{too_deep_at}
-use Rattle.vlog_parse.specs.NumberFaults.{number_fault_at}
+use Rattle.vlog_numbers.specs.NumberFaults.{number_fault_at}
 use Rattle.vlog_parse.specs.Outside.{outside_at}
 use Rattle.vlog_parse.specs.Places.{IsPlace, SpellNothing}
 use Rattle.vlog_parse.specs.declared.parse_fault.ParseFault.{ParseFault}

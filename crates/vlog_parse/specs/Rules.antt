@@ -3,7 +3,7 @@ use Rattle.std.specs.Prelude.{◌<◌, List, length, Result, OnOk}
 use denote.Ref.{MutBor}
 use Rattle.vlog_tokens.specs.Toks.{Tok}
 use Rattle.vlog_parse.specs.Reads.{Parser, Reads}
-use Rattle.vlog_parse.specs.declared.fault.Fault.{Fault}
+use Rattle.vlog_numbers.specs.declared.fault.Fault.{Fault}
 
 -- It may be called anywhere, and takes a token at least.
 pub record IsReader {A : Type 0} (pre : MutBor (List Tok) → Type 0) (post : MutBor (List Tok) → Result A Fault → MutBor (List Tok) → Type 0) : Type 0 where

@@ -6,10 +6,10 @@ ghost use Rattle.vlog_parse.specs.Reads.{Parser, Reads, ReadsInto};
 ghost use Rattle.vlog_parse.specs.Rules.{IsReader, IsRule};
 
 use crate::cursor::Cursor;
-use crate::fault::Fault;
 use crate::operator::{binary_operator, unary_operator};
 use sqlite_items::{Boxed, Items};
 use std::alloc::{AllocError, Global};
+use vlog_numbers::Fault;
 use vlog_tree::{BinOp, Expr, UnOp};
 
 /// Any number of unary operators.

@@ -3,18 +3,16 @@
 ghost use Rattle.std.specs.Prelude.{◌≡◌, ◌<◌, drop, length, OnOk};
 ghost use Rattle.vlog_tokens.specs.Toks.{toks};
 ghost use Rattle.vlog_tree.specs.Spelling.Parts.{place_of};
-ghost use Rattle.vlog_parse.specs.Numbers.{peek, sees_based, sees_size};
-ghost use Rattle.vlog_parse.specs.Items.{any_token};
+ghost use Rattle.vlog_numbers.specs.Values.{sees_based};
 ghost use Rattle.vlog_parse.specs.Looks as looks;
 ghost use Rattle.vlog_parse.specs.Reads as spec;
 ghost use Rattle.vlog_parse.specs.Reads.{Reads, ReadsToken};
 ghost use Rattle.vlog_parse.specs.Terminals as terminals;
 
-use crate::fault::Fault;
-use crate::terminal::{decimal_between, name_of, terminal};
 use bm_base::Name;
 use std::alloc::Global;
 use std::marker::Model;
+use vlog_numbers::{Fault, decimal_between, is_terminal, name_of, terminal};
 use vlog_tokens::{Token, TokenKind};
 
 /// The tokens that are left, seen by contracts as their list. A rule that fails leaves it at the token that does not fit.
@@ -57,7 +55,7 @@ impl<'t, 'a> Cursor<'t, 'a> {
 
     /// Whether the token after the next is based.
     pub fn sees_size(&self) -> bool
-        ensures { result ≡ sees_size self.now }
+        ensures { result ≡ looks.sees_size self.now }
     {
         match self.rest {
             [_, second, ..] => second.kind == TokenKind::Based,
@@ -67,7 +65,7 @@ impl<'t, 'a> Cursor<'t, 'a> {
 
     /// The next token, which is left.
     pub fn peek(&self) -> Result<Token<'a>, Fault>
-        ensures { ReadsToken (peek self.now) result self.now }
+        ensures { ReadsToken (looks.peek self.now) result self.now }
     {
         match self.rest {
             [first, ..] => Ok(*first),
@@ -99,7 +97,7 @@ impl<'t, 'a> Cursor<'t, 'a> {
         ensures { result ≡ spec.sees text.now self.now }
     {
         match self.rest {
-            [first, ..] => terminal(*first) == text.as_bytes(),
+            [first, ..] => is_terminal(*first, text),
             [] => false,
         }
     }
@@ -111,7 +109,7 @@ impl<'t, 'a> Cursor<'t, 'a> {
         ensures consumes { OnOk result (length self.new < length self.old) }
     {
         match self.rest {
-            [first, rest @ ..] if terminal(*first) == text.as_bytes() => {
+            [first, rest @ ..] if is_terminal(*first, text) => {
                 self.rest = rest;
                 Ok(*first)
             }
@@ -178,7 +176,7 @@ impl<'t, 'a> Cursor<'t, 'a> {
     {
         match self.rest {
             [first, second, ..] => {
-                first.kind == TokenKind::Decimal && terminal(*second) == text.as_bytes()
+                first.kind == TokenKind::Decimal && is_terminal(*second, text)
             }
             _ => false,
         }
@@ -192,9 +190,9 @@ impl<'t, 'a> Cursor<'t, 'a> {
     }
 
     /// The next token, whatever it is.
-    #[tactic(auto, unfolding(crate::specs::Items::any_token, crate::specs::Reads::take_if))]
+    #[tactic(auto, unfolding(crate::specs::Looks::any_token, crate::specs::Reads::take_if))]
     pub fn take(&mut self) -> Result<Token<'a>, Fault>
-        ensures reads { ReadsToken (any_token self.old) result self.new }
+        ensures reads { ReadsToken (looks.any_token self.old) result self.new }
         ensures consumes { OnOk result (length self.new < length self.old) }
     {
         let [first, rest @ ..] = self.rest else {

@@ -8,20 +8,16 @@ ghost use Rattle.vlog_parse.specs.Reads.{Reads, ReadsInto};
 use crate::cursor::Cursor;
 use crate::declared::{push_register, push_wire, register, wire};
 use crate::delay::any_delay;
-use crate::fault::Fault;
 use crate::shape::{Shape, any_range, port_shape};
 use sqlite_items::Items;
 use std::alloc::Global;
+use vlog_numbers::Fault;
 use vlog_tree::{Item, NetKind};
 
 /// A declaration that begins with a direction.
 #[tactic(auto, unfolding(crate::specs::Declarations::port_items))]
-pub fn port_items(
-    alloc: Global,
-    cursor: &mut Cursor<'_, '_>,
-    depth: usize,
-) -> Result<Items<Item>, Fault>
-    ensures reads { Reads (spec.port_items depth cursor.old) result cursor.new }
+pub fn port_items(alloc: Global, cursor: &mut Cursor<'_, '_>) -> Result<Items<Item>, Fault>
+    ensures reads { Reads (spec.port_items cursor.old) result cursor.new }
     ensures consumes { OnOk result (length cursor.new < length cursor.old) }
 {
     let shape = port_shape(cursor)?;
@@ -51,12 +47,8 @@ pub fn wire_items(
 
 /// A declaration that begins with `reg`.
 #[tactic(auto, unfolding(crate::specs::Declarations::reg_items))]
-pub fn reg_items(
-    alloc: Global,
-    cursor: &mut Cursor<'_, '_>,
-    depth: usize,
-) -> Result<Items<Item>, Fault>
-    ensures reads { Reads (spec.reg_items depth cursor.old) result cursor.new }
+pub fn reg_items(alloc: Global, cursor: &mut Cursor<'_, '_>) -> Result<Items<Item>, Fault>
+    ensures reads { Reads (spec.reg_items cursor.old) result cursor.new }
     ensures consumes { OnOk result (length cursor.new < length cursor.old) }
 {
     cursor.expect("reg")?;

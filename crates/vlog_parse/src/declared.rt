@@ -7,13 +7,13 @@ ghost use Rattle.vlog_parse.specs.Reads.{Reads};
 
 use crate::cursor::Cursor;
 use crate::expr::expr;
-use crate::fault::Fault;
 use crate::number::number;
 use crate::shape::Shape;
 use bm_base::{Name, NoMemory};
 use sqlite_items::Items;
 use std::alloc::Global;
 use std::marker::Model;
+use vlog_numbers::Fault;
 use vlog_tree::{Expr, Item, Left, NetKind};
 
 /// A name that is declared, and its value if it has one.
@@ -111,7 +111,7 @@ pub fn push_register(
     let Some(value) = value else {
         return push_declaration(shape, at, name, items);
     };
-    push_declaration(shape, at, Name::new(alloc, name.bytes())?, items)?;
+    push_declaration(shape, at, name.clone()?, items)?;
     items.push(Item::Initial { at, name, value })?;
     Ok(())
 }
@@ -129,7 +129,7 @@ pub fn push_wire(
     let Some(right) = value else {
         return push_declaration(shape, at, name, items);
     };
-    push_declaration(shape, at, Name::new(alloc, name.bytes())?, items)?;
+    push_declaration(shape, at, name.clone()?, items)?;
     let left = Left::Whole { at, name };
     items.push(Item::Assign { at, left, right })?;
     Ok(())

@@ -6,10 +6,10 @@ ghost use Rattle.vlog_parse.specs.Reads.{Reads, separated};
 ghost use Rattle.vlog_parse.specs.Terminals.{decimal};
 
 use crate::cursor::Cursor;
-use crate::fault::Fault;
 use crate::list::separated;
 use sqlite_items::Items;
 use std::alloc::Global;
+use vlog_numbers::Fault;
 
 /// A delay, if there is one (IEEE 1364-2005, clause 7.14).
 #[tactic(auto, unfolding(crate::specs::Delays::any_delay))]

@@ -6,9 +6,9 @@ ghost use Rattle.vlog_parse.specs.Reads.{Reads};
 
 use crate::chain::{chain, unary_operators, wrap};
 use crate::cursor::Cursor;
-use crate::fault::Fault;
 use sqlite_items::Boxed;
 use std::alloc::Global;
+use vlog_numbers::Fault;
 use vlog_tree::Expr;
 
 /// The rules of one level of nesting, which take the function that reads the expressions inside as a parameter.

@@ -10,12 +10,12 @@ ghost use Rattle.vlog_parse.specs.Reads.{Reads, ReadsInto, loop, one_more};
 
 use crate::cursor::Cursor;
 use crate::expr::expr;
-use crate::fault::Fault;
 use crate::left::left;
 use crate::list::separated;
 use bm_base::Name;
 use sqlite_items::Items;
 use std::alloc::Global;
+use vlog_numbers::Fault;
 use vlog_tree::{Expr, GateKind, Item, Left};
 
 /// The gate with this word that has one output.

@@ -5,13 +5,13 @@ ghost use Rattle.vlog_parse.specs.Reads.{Reads, separated};
 ghost use Rattle.vlog_parse.specs.Terminals.{name};
 
 use crate::cursor::Cursor;
-use crate::fault::Fault;
 use crate::list::separated;
 use crate::port::port_list;
 use crate::shape::is_direction;
 use bm_base::Name;
 use sqlite_items::Items;
 use std::alloc::Global;
+use vlog_numbers::Fault;
 use vlog_tree::Item;
 
 /// The names of a module's ports, and what declares them if they have directions here.

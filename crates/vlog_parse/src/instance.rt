@@ -7,11 +7,11 @@ ghost use Rattle.vlog_parse.specs.Reads.{Reads, ReadsInto, loop, one_more, one_m
 
 use crate::cursor::Cursor;
 use crate::expr::expr;
-use crate::fault::Fault;
 use crate::list::separated;
 use bm_base::Name;
 use sqlite_items::Items;
 use std::alloc::Global;
+use vlog_numbers::Fault;
 use vlog_tree::{Expr, Item, Link};
 
 /// One instance, after the name of its module.
@@ -32,7 +32,7 @@ pub fn instance(
     cursor.expect(")")?;
     Ok(Item::Instance {
         at,
-        module: Name::new(alloc, definition.bytes())?,
+        module: definition.clone()?,
         name,
         links,
     })

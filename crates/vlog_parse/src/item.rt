@@ -9,7 +9,6 @@ use crate::cursor::Cursor;
 use crate::declaration::{port_items, reg_items, wire_items};
 use crate::delay::any_delay;
 use crate::expr::expr;
-use crate::fault::Fault;
 use crate::gate::{input_gate, input_kind, output_gate, output_kind};
 use crate::instance::instance;
 use crate::left::left;
@@ -19,6 +18,7 @@ use crate::stmt::stmt;
 use bm_base::Name;
 use sqlite_items::Items;
 use std::alloc::{AllocError, Global};
+use vlog_numbers::Fault;
 use vlog_tree::{Expr, GateKind, Item};
 
 /// One item of the source, which may be several of the tree.
@@ -29,11 +29,11 @@ pub fn item(alloc: Global, cursor: &mut Cursor<'_, '_>, depth: usize) -> Result<
 {
     let text = cursor.terminal();
     if text == "input".as_bytes() || text == "output".as_bytes() {
-        port_items(alloc, cursor, depth)
+        port_items(alloc, cursor)
     } else if text == "wire".as_bytes() {
         wire_items(alloc, cursor, depth)
     } else if text == "reg".as_bytes() {
-        reg_items(alloc, cursor, depth)
+        reg_items(alloc, cursor)
     } else {
         other_items(alloc, cursor, depth, text)
     }

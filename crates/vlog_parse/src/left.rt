@@ -9,11 +9,11 @@ ghost use Rattle.vlog_tree.specs.Spelling.Lefts.{assigned};
 ghost use Rattle.vlog_tree.specs.declared.left.Left as tree;
 
 use crate::cursor::Cursor;
-use crate::fault::Fault;
 use crate::list::separated;
 use crate::select::{Selection, select};
 use bm_base::Name;
 use std::alloc::Global;
+use vlog_numbers::Fault;
 use vlog_tree::Left;
 
 /// A left side in which braces nest less deep than `depth`.

@@ -2,15 +2,12 @@
 #![tactic(auto)]
 
 mod among;
-mod based;
 mod chain;
 mod cursor;
 mod declaration;
 mod declared;
 mod delay;
-mod digits;
 mod expr;
-mod fault;
 mod gate;
 mod header;
 mod instance;
@@ -21,18 +18,15 @@ mod list;
 mod module;
 mod nest;
 mod number;
-mod number_fault;
 mod operator;
 mod outside;
 mod parse_fault;
 mod parser;
 mod port;
 mod primary;
-mod row;
 mod select;
 mod shape;
 mod stmt;
-mod terminal;
 
 pub use parse_fault::ParseFault;
 pub use parser::parse;

@@ -6,9 +6,9 @@ ghost use Rattle.vlog_parse.specs.Reads.{Parser, Reads, ReadsInto};
 ghost use Rattle.vlog_parse.specs.Rules.{IsReader, IsRule};
 
 use crate::cursor::Cursor;
-use crate::fault::Fault;
 use sqlite_items::Items;
 use std::alloc::Global;
+use vlog_numbers::Fault;
 
 /// One or more, with commas between.
 #[tactic(auto, unfolding(crate::specs::Reads::separated))]

@@ -7,11 +7,11 @@ ghost use Rattle.vlog_parse.specs.Reads as reads;
 ghost use Rattle.vlog_parse.specs.Reads.{Reads, ReadsInto};
 
 use crate::cursor::Cursor;
-use crate::fault::Fault;
 use crate::header::any_header;
 use crate::item::item;
 use sqlite_items::Items;
 use std::alloc::Global;
+use vlog_numbers::Fault;
 use vlog_tree::{Design, Item, Module};
 
 /// A design up to the end of the tokens, in which expressions and statements may nest so deep.

@@ -5,7 +5,7 @@ ghost use Rattle.vlog_words.specs.Words.{is_text_among};
 ghost use Rattle.vlog_parse.specs.Nest as spec;
 
 use crate::among::is_among;
-use crate::terminal::terminal;
+use vlog_numbers::terminal;
 use vlog_tokens::Token;
 
 const OPENINGS: [&str; 3] = ["(", "{", "begin"];

@@ -1,18 +1,13 @@
 //! Numbers (IEEE 1364-2005, clause 3.5.1).
 ghost use Rattle.std.specs.Prelude.{◌<◌, length, OnOk};
-ghost use Rattle.vlog_tokens.specs.Toks.{tok_of};
+ghost use Rattle.vlog_numbers.specs.Values.{sized_of};
 ghost use Rattle.vlog_parse.specs.Numbers as spec;
-ghost use Rattle.vlog_parse.specs.Numbers.{Means};
 ghost use Rattle.vlog_parse.specs.Reads.{Reads, take_if};
 
-use crate::based::based_row;
 use crate::cursor::Cursor;
-use crate::fault::Fault;
-use crate::row::Row;
-use crate::terminal::is_size;
 use bm_base::Bits;
 use std::alloc::Global;
-use vlog_tokens::{Token, TokenKind};
+use vlog_numbers::{Fault, is_size, sized_bits, unsized_bits, word_bits};
 
 /// A decimal by itself, a based token by itself, or a based token behind its size: its bits, the least first.
 #[tactic(auto, unfolding(crate::specs::Numbers::number))]
@@ -35,9 +30,7 @@ fn decimal_number(alloc: Global, cursor: &mut Cursor<'_, '_>) -> Result<Bits, Fa
     ensures consumes { OnOk result (length cursor.new < length cursor.old) }
 {
     let value = cursor.decimal()?;
-    let mut row = Row::new(alloc, 32)?;
-    row.push(value as u128, 32);
-    Ok(row.bits)
+    Ok(word_bits(alloc, value)?)
 }
 
 #[tactic(auto, unfolding(crate::specs::Numbers::unsized_number, crate::specs::Reads::take_if))]
@@ -75,35 +68,10 @@ fn sized_digits(alloc: Global, cursor: &mut Cursor<'_, '_>, width: u32) -> Resul
 // A based token at a width.
 #[tactic(auto, unfolding(crate::specs::Reads::take_if))]
 fn digits(alloc: Global, cursor: &mut Cursor<'_, '_>, width: usize) -> Result<Bits, Fault>
-    ensures reads { Reads (take_if (spec.sized_of width) cursor.old) result cursor.new }
+    ensures reads { Reads (take_if (sized_of width) cursor.old) result cursor.new }
     ensures consumes { OnOk result (length cursor.new < length cursor.old) }
 {
     let bits = sized_bits(alloc, cursor.peek()?, width)?;
     cursor.skip();
     Ok(bits)
-}
-
-#[tactic(auto, unfolding(crate::specs::Numbers::unsized_of))]
-fn unsized_bits(alloc: Global, token: Token) -> Result<Bits, Fault>
-    ensures { Means (spec.unsized_of (tok_of token.entry)) result }
-{
-    if token.kind != TokenKind::Based {
-        return Err(Fault::Token);
-    }
-    let row = based_row(alloc, token.text, 32)?;
-    if row.fits {
-        Ok(row.bits)
-    } else {
-        Err(Fault::Token)
-    }
-}
-
-#[tactic(auto, unfolding(crate::specs::Numbers::sized_of))]
-fn sized_bits(alloc: Global, token: Token, width: usize) -> Result<Bits, Fault>
-    ensures { Means (spec.sized_of width (tok_of token.entry)) result }
-{
-    if token.kind != TokenKind::Based {
-        return Err(Fault::Token);
-    }
-    Ok(based_row(alloc, token.text, width)?.bits)
 }

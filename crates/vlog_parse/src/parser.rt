@@ -7,14 +7,13 @@ ghost use Rattle.vlog_parse.specs.Refusals.{IsCause, IsInProfile, IsMissed};
 ghost use Rattle.vlog_parse.specs.declared.parse_fault.ParseFault.TheVariants.{Memory};
 
 use crate::cursor::Cursor;
-use crate::fault::Fault;
 use crate::module::design;
 use crate::nest::too_deep_at;
-use crate::number_fault::number_fault_at;
 use crate::outside::outside_at;
 use crate::parse_fault::ParseFault;
 use std::alloc::Global;
 use vlog_lexer::Tokens;
+use vlog_numbers::{Fault, number_fault_at};
 use vlog_tree::Design;
 
 /// The design that the tokens spell, or the first reason that applies: a reserved word outside the profile, a number outside

@@ -5,11 +5,11 @@ ghost use Rattle.vlog_parse.specs.Reads.{Reads, ReadsInto};
 
 use crate::cursor::Cursor;
 use crate::declared::{push_register, register};
-use crate::fault::Fault;
 use crate::shape::{Shape, is_direction, port_shape};
 use bm_base::Name;
 use sqlite_items::Items;
 use std::alloc::Global;
+use vlog_numbers::Fault;
 use vlog_tree::Item;
 
 /// The ports that were read. One without a direction takes direction, kind and range of the one before.
@@ -62,7 +62,7 @@ fn add_port(alloc: Global, cursor: &mut Cursor<'_, '_>, ports: &mut Ports) -> Re
     ensures consumes { OnOk result (length cursor.new < length cursor.old) }
 {
     let declared = register(alloc, cursor, ports.shape.kind)?;
-    ports.names.push(Name::new(alloc, declared.name.bytes())?)?;
+    ports.names.push(declared.name.clone()?)?;
     push_register(alloc, ports.shape, declared, &mut ports.items)?;
     Ok(())
 }

@@ -8,14 +8,13 @@ ghost use Rattle.vlog_parse.specs.Selects.{select_of};
 
 use crate::cursor::Cursor;
 use crate::expr::Grammar;
-use crate::fault::Fault;
 use crate::list::separated;
 use crate::number::number;
 use crate::select::{Selection, select};
-use crate::terminal::is_size;
 use bm_base::Name;
 use sqlite_items::Items;
 use std::alloc::Global;
+use vlog_numbers::{Fault, is_size};
 use vlog_tokens::Token;
 use vlog_tree::Expr;
 

@@ -4,8 +4,8 @@ ghost use Rattle.vlog_parse.specs.Reads.{Reads};
 ghost use Rattle.vlog_parse.specs.Selects as spec;
 
 use crate::cursor::Cursor;
-use crate::fault::Fault;
 use bm_base::Range;
+use vlog_numbers::Fault;
 
 /// How much of a name is taken.
 #[derive(Clone, Copy, Debug, PartialEq, Eq)]

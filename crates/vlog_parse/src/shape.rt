@@ -4,10 +4,10 @@ ghost use Rattle.vlog_parse.specs.Declarations as spec;
 ghost use Rattle.vlog_parse.specs.Reads.{Reads};
 
 use crate::cursor::Cursor;
-use crate::fault::Fault;
 use crate::select::range;
 use bm_base::Range;
 use std::marker::Model;
+use vlog_numbers::Fault;
 use vlog_tree::{Dir, NetKind};
 
 /// Direction, kind and range (IEEE 1364-2005, clauses 4.2 and 12.3.3).

@@ -9,11 +9,11 @@ ghost use Rattle.vlog_tree.specs.declared.stmt.Stmt as tree;
 use crate::cursor::Cursor;
 use crate::delay::any_delay;
 use crate::expr::expr;
-use crate::fault::Fault;
 use crate::left::left;
 use crate::list::repeated_until;
 use sqlite_items::Boxed;
 use std::alloc::Global;
+use vlog_numbers::Fault;
 use vlog_tree::Stmt;
 
 /// A statement in which statements nest less deep than `depth`.

@@ -1,0 +1,2 @@
+pub mod DecimalValues
+pub mod Fills

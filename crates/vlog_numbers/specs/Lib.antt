@@ -1,0 +1,4 @@
+pub mod Fill
+pub mod NumberFaults
+pub mod Terminals
+pub mod Values

@@ -1,8 +1,0 @@
--- The bytes up to here are spaces.
-use Rattle.std.proofs.Common.{◌≡◌, ◌+◌, drop}
-use Rattle.std.specs.List.{prefix_len}
-use Rattle.vlog_tokens.specs.Classes.{is_space}
-use Rattle.vlog_parse.proofs.based.without_spaces.Given as goal
-
-abbrev pub invariant-loop-i : goal.invariant-loop-i
-invariant-loop-i l = prefix_len is_space l.text ≡ l.i + prefix_len is_space (drop l.i l.text)
