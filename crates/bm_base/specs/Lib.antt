@@ -5,6 +5,7 @@ pub mod Held
 pub mod MemShelf
 pub mod MemSink
 pub mod Script
+pub mod Size
 pub mod Status
 pub mod Taken
 pub mod TextMap

@@ -1,4 +1,4 @@
-/// The range `[left:right]` of a declaration or a select (IEEE 1364-2005, clause 3.3). Either end may be the
+/// The range `[left:right]` of a declaration or a select (IEEE 1364-2005, clause 4.3). Either end may be the
 /// greater one.
 #[derive(Clone, Copy, Debug, PartialEq, Eq)]
 pub struct Range {
