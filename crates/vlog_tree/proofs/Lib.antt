@@ -1,5 +1,0 @@
-pub mod EntryLemmas
-pub mod KeyLemmas
-pub mod NameLemmas
-pub mod ReadLemmas
-pub mod StepLemmas
