@@ -144,6 +144,3 @@ fn fits(rows: usize, width: usize) -> bool
 {
     (rows + 1).checked_mul(width).is_some()
 }
-
-#[cfg(test)]
-mod tests;

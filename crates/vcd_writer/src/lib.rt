@@ -10,6 +10,3 @@ mod value;
 mod waveform;
 
 pub use waveform::vcd_text;
-
-#[cfg(test)]
-mod tests;
