@@ -1,1 +1,3 @@
+pub mod AmongWords
+pub mod Reserved
 pub mod Words

@@ -1,9 +1,9 @@
 -- The words of the netlist language.
-use Rattle.std.specs.Prelude.{◌≡◌, ◌==◌, ℕ, List, [], ◌∷◌, ◌++◌, Bool, false, ◌&&◌, ◌||◌, ◌⊎◌, IsTrue, map, Contains}
+use Rattle.std.specs.Prelude.{◌==◌, ℕ, List, [], ◌∷◌, ◌++◌, Bool, false, ◌&&◌, ◌||◌, IsTrue, Contains}
 use Rattle.std.specs.Char.{is_ascii_alphabetic, is_ascii_alphanumeric}
 use Rattle.std.specs.List.{AllPass, list_all, list_any}
 use Rattle.std.specs.Str.{bytes_eq}
-use Rattle.vlog_words.specs.declared.reserved.TheConstants.{PROFILE_WORDS, OUTSIDE_WORDS}
+unfoldable pub use Rattle.vlog_words.specs.Reserved.{profile_words, outside_words}
 
 -- a letter or `_`
 abbrev pub is_word_start : ℕ → Bool
@@ -23,14 +23,6 @@ abbrev pub is_word_text : List ℕ → Bool
 is_word_text [] = false
 is_word_text (first ∷ rest) = is_word_start first && list_all is_word_byte rest
 
--- the reserved words that netlists use
-unfoldable pub profile_words : List (List ℕ)
-profile_words = map (λ word. word.now) PROFILE_WORDS
-
--- the other reserved words
-unfoldable pub outside_words : List (List ℕ)
-outside_words = map (λ word. word.now) OUTSIDE_WORDS
-
 abbrev pub reserved_words : List (List ℕ)
 reserved_words = profile_words ++ outside_words
 
@@ -45,6 +37,11 @@ is_text_among words text = list_any (λ word. bytes_eq word text) words
 abbrev pub is_reserved_text : List ℕ → Bool
 is_reserved_text text = is_text_among reserved_words text
 
+-- whether the word begins with this byte
+abbrev pub begins_with : ℕ → List ℕ → Bool
+begins_with byte [] = false
+begins_with byte (first ∷ rest) = first == byte
+
 -- a space, a tab, a newline, a form feed or a carriage return
-abbrev pub IsSpace : ℕ → Type 0
-IsSpace byte = (byte ≡ 32) ⊎ (byte ≡ 9) ⊎ (byte ≡ 10) ⊎ (byte ≡ 12) ⊎ (byte ≡ 13)
+abbrev pub is_space : ℕ → Bool
+is_space byte = byte == 32 || byte == 9 || byte == 10 || byte == 12 || byte == 13

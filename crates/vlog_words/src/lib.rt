@@ -2,11 +2,10 @@
 //! are reserved, and which bytes are white space.
 #![tactic(auto)]
 
+mod among;
 mod reserved;
 mod word;
 
-pub use reserved::{OUTSIDE_WORDS, PROFILE_WORDS, is_reserved};
+pub use among::is_among;
+pub use reserved::{is_outside_word, is_reserved};
 pub use word::{is_space, is_word, is_word_byte, is_word_start};
-
-#[cfg(test)]
-mod tests;

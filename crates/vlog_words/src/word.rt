@@ -1,6 +1,6 @@
 ghost use Rattle.std.specs.Prelude.{◌≡◌, ◌↔◌, IsTrue};
 ghost use Rattle.std.specs.List.{list_all};
-ghost use Rattle.vlog_words.specs.Words.{IsSpace, IsWord, is_word_byte, is_word_start, is_word_text};
+ghost use Rattle.vlog_words.specs.Words.{IsWord, is_space, is_word_byte, is_word_start, is_word_text};
 
 /// Whether the text is a word: a letter or `_`, then letters, digits, `_` and `$`.
 pub fn is_word(text: &[u8]) -> bool
@@ -15,7 +15,7 @@ pub fn is_word(text: &[u8]) -> bool
 
 /// Whether the byte is white space: a space, a tab, a newline, a form feed or a carriage return.
 pub fn is_space(byte: u8) -> bool
-    ensures { IsTrue result ↔ IsSpace byte }
+    ensures { result ≡ is_space byte }
 {
     matches!(byte, b' ' | b'\t' | b'\n' | 0x0c | b'\r')
 }

@@ -2,7 +2,7 @@ use Rattle.std.proofs.Common.{arith}
 use Rattle.std.proofs.lemmas.Bool.Decides.{Decides-at}
 use Rattle.std.proofs.lemmas.Grind.{common_steps}
 use Rattle.vlog_words.specs.Words.{reserved_words}
-use Rattle.vlog_words.proofs.Among.{is_text_among-Decides}
+use Rattle.vlog_words.specs.AmongWords.{is_text_among-Decides}
 use Rattle.vlog_words.proofs.reserved.is_reserved.Goals as goal
 
 pub returns-then-is_profile_word-clause-value : goal.returns-then-is_profile_word-clause-value

@@ -1,9 +1,13 @@
-use Rattle.std.proofs.Common.{List, ℕ, Bor, rules, sym, ◌∙◌, tests}
+use Rattle.std.proofs.Common.{◌≡◌, ℕ, List, [], ◌∷◌, Bool, ◌||◌, Bor, map, refl, ap, sym, ◌∙◌, rules, tests}
+use Rattle.std.specs.List.{list_any}
 use Rattle.std.specs.Str.{bytes_eq}
 use Rattle.std.proofs.lemmas.Iterator.{YieldsList-from_slice}
 use Rattle.std.proofs.lemmas.Iterator.Search.{any_from_yields_List}
-use Rattle.vlog_words.proofs.Among.{list_any-map}
-use Rattle.vlog_words.proofs.reserved.is_among.Goals as goal
+use Rattle.vlog_words.proofs.among.is_among.Goals as goal
+
+list_any-map : {X Y : Type 0} (p : Y → Bool) (f : X → Y) (xs : List X) → list_any p (map f xs) ≡ list_any (λ x. p (f x)) xs
+list_any-map p f [] = refl
+list_any-map p f (x ∷ xs) = ap (λ b. p (f x) || b) (list_any-map p f xs)
 
 pub returns : goal.returns
 returns c =
