@@ -1,4 +1,3 @@
-pub mod AmongLemmas
 pub mod ChainLoops
 pub mod DeclarationsComplete
 pub mod DeclarationsSound

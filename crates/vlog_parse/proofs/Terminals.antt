@@ -1,11 +1,8 @@
 -- What one token stands for, as a test and as a fact.
-use Rattle.std.proofs.Common.{◌≡◌, ◌==◌, ◌≤◌, ◌&&◌, ℕ, Bool, true, false, List, [], ◌∷◌, Some, None, Ok, nat_le, if◌then◌else◌, sym, refl, Contains, Decides, bytes_eq, inl, inr, arith}
-use Rattle.std.specs.List.{list_any}
+use Rattle.std.proofs.Common.{◌≡◌, ◌==◌, ◌≤◌, ◌&&◌, ℕ, Bool, true, false, List, [], ◌∷◌, Some, None, Ok, nat_le, if◌then◌else◌, sym, refl, inl, inr, arith}
 use Rattle.std.proofs.lemmas.Bool.{cases_Bool, eqb-true, le-leb, leb-true, and_from, and_parts}
-use Rattle.std.proofs.lemmas.Bool.Decides.{Decides-by_or}
-use Rattle.std.proofs.lemmas.List.Elements.{Decides-contains}
-use Rattle.std.proofs.lemmas.Slice.Eq.{bytes_eq-Decides}
-use Rattle.vlog_words.specs.Words.{IsReserved, is_reserved_text, is_text_among, reserved_words}
+use Rattle.vlog_words.specs.AmongWords.{is_text_among-Decides}
+use Rattle.vlog_words.specs.Words.{IsReserved, is_reserved_text, reserved_words}
 use Rattle.vlog_tokens.specs.Toks.{Tok}
 use Rattle.vlog_tokens.specs.declared.token.TokenKind.{TokenKind}
 use Rattle.vlog_tokens.specs.declared.token.TokenKind.TheVariants.{Word, Escaped, System, Decimal, Based, Text, Mark}
@@ -16,18 +13,14 @@ use Rattle.vlog_parse.proofs.Rules.{take_took, takes}
 
 -- ---- reserved words
 
-among-Decides : (words : List (List ℕ)) (text : List ℕ) → Decides (is_text_among words text) (Contains words text)
-among-Decides words text =
-    Decides-contains words text _ (Decides-by_or (λ word. bytes_eq word text) (λ word. word ≡ text) (list_any (λ word. bytes_eq word text)) (λ word. bytes_eq-Decides word text) refl (λ _ _. refl) words)
-
 -- A text that the test doesn't find is no reserved word.
 unreserved : (text : List ℕ) → is_reserved_text text ≡ false → IsReserved text → ⊥
-unreserved text free is = (let found = (among-Decides reserved_words text).1 is in cc)
+unreserved text free is = (let found = (is_text_among-Decides reserved_words text).1 is in cc)
 
 -- The test doesn't find what is no reserved word.
 not_found : (text : List ℕ) → (IsReserved text → ⊥) → is_reserved_text text ≡ false
 not_found text free = elim (cases_Bool (is_reserved_text text)) [
-  | inl found ↦ absurd (free ((among-Decides reserved_words text).0 found))
+  | inl found ↦ absurd (free ((is_text_among-Decides reserved_words text).0 found))
   | inr e ↦ e
 ]
 

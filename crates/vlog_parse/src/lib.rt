@@ -1,7 +1,6 @@
 //! The grammar of a netlist (IEEE 1364-2005 in its profile): the design that tokens spell.
 #![tactic(auto)]
 
-mod among;
 mod chain;
 mod cursor;
 mod declaration;

@@ -4,9 +4,9 @@ ghost use Rattle.vlog_tokens.specs.Toks.{toks};
 ghost use Rattle.vlog_words.specs.Words.{is_text_among};
 ghost use Rattle.vlog_parse.specs.Nest as spec;
 
-use crate::among::is_among;
 use vlog_numbers::terminal;
 use vlog_tokens::Token;
+use vlog_words::is_among;
 
 const OPENINGS: [&str; 3] = ["(", "{", "begin"];
 

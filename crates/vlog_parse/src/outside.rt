@@ -1,12 +1,10 @@
 //! Reserved words that the profile leaves out.
 ghost use Rattle.std.specs.Prelude.{◌≡◌};
 ghost use Rattle.vlog_tokens.specs.Toks.{tok_of, toks};
-ghost use Rattle.vlog_words.specs.Words.{is_text_among, outside_words};
 ghost use Rattle.vlog_parse.specs.Outside.{is_outside, outside_at};
 
-use crate::among::is_among;
 use vlog_tokens::{Token, TokenKind};
-use vlog_words::OUTSIDE_WORDS;
+use vlog_words::is_outside_word;
 
 /// The place of the first reserved word outside the profile.
 pub fn outside_at(tokens: &[Token]) -> Option<u64>
@@ -24,10 +22,4 @@ fn is_outside(token: Token) -> bool
     ensures { result ≡ is_outside (tok_of token.entry) }
 {
     token.kind == TokenKind::Word && is_outside_word(token.text)
-}
-
-fn is_outside_word(text: &[u8]) -> bool
-    ensures { result ≡ is_text_among outside_words text.now }
-{
-    is_among(&OUTSIDE_WORDS, text)
 }
