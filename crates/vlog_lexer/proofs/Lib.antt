@@ -1,4 +1,3 @@
-pub mod Among
 pub mod AttributeLemmas
 pub mod MarkLemmas
 pub mod OrderLemmas

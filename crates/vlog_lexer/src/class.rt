@@ -1,6 +1,6 @@
 //! Sets of bytes, of which tokens and comments have runs.
 ghost use Rattle.std.specs.Prelude.{◌≡◌, ◌≤◌, length};
-ghost use Rattle.vlog_tokens.specs.Classes.{is_in, is_space, is_unknown_digit};
+ghost use Rattle.vlog_tokens.specs.Classes.{is_in, is_unknown_digit};
 ghost use Rattle.vlog_tokens.specs.Runs.{IsRun};
 
 use vlog_tokens::Class;
@@ -22,7 +22,7 @@ fn is_in(class: Class, byte: u8) -> bool
     ensures { result ≡ is_in class byte }
 {
     match class {
-        Class::SpaceByte => is_blank(byte),
+        Class::SpaceByte => is_space(byte),
         Class::WordByte => is_word_byte(byte),
         Class::LineByte => byte != b'\n',
         Class::NameByte => byte.is_ascii_graphic(),
@@ -32,13 +32,6 @@ fn is_in(class: Class, byte: u8) -> bool
         Class::DecimalDigit => byte.is_ascii_digit() || is_unknown_digit(byte),
         Class::HexDigit => byte.is_ascii_hexdigit() || is_unknown_digit(byte),
     }
-}
-
-/// Whether the byte is white space.
-pub fn is_blank(byte: u8) -> bool
-    ensures { result ≡ is_space byte }
-{
-    is_space(byte)
 }
 
 fn is_unknown_digit(byte: u8) -> bool

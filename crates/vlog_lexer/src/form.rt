@@ -5,10 +5,11 @@ ghost use Rattle.vlog_tokens.specs.Forms.{HasForm, IsBased, IsDirective, IsEscap
 ghost use Rattle.vlog_tokens.specs.Rows.{row_at};
 ghost use Rattle.vlog_tokens.specs.Strings.{IsString};
 
-use crate::class::{is_blank, run_end};
+use crate::class::run_end;
 use crate::row::byte_at;
 use crate::table::{is_directive, is_mark};
 use vlog_tokens::{Class, Row, TokenKind};
+use vlog_words::is_space;
 
 /// Where that ends which stands at the place, if something does.
 pub fn piece_end(source: &[u8], at: usize, row: Row) -> Option<usize>
@@ -85,7 +86,7 @@ fn escaped_end(source: &[u8], at: usize) -> Option<usize>
     if end == at + 1 {
         return None;
     }
-    if end < source.len() && !is_blank(source[end]) {
+    if end < source.len() && !is_space(source[end]) {
         return None;
     }
     Some(end)

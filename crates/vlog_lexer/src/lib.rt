@@ -13,7 +13,3 @@ mod table;
 
 pub use fault::LexFault;
 pub use lexer::{Tokens, lex};
-pub use vlog_tokens::{Token, TokenKind};
-
-#[cfg(test)]
-mod tests;

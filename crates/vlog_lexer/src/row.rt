@@ -2,9 +2,8 @@
 ghost use Rattle.std.specs.Prelude.{◌≡◌, ◌<◌, length, slice_index};
 ghost use Rattle.vlog_tokens.specs.Rows.{kind_of, row_at, row_of};
 
-use crate::class::is_blank;
 use vlog_tokens::{Row, TokenKind};
-use vlog_words::is_word_start;
+use vlog_words::{is_space, is_word_start};
 
 /// What the place begins.
 pub fn row_at(source: &[u8], at: usize) -> Row
@@ -24,7 +23,7 @@ pub fn byte_at(source: &[u8], at: usize) -> u8
 fn row_of(byte: u8, next: u8) -> Row
     ensures { result ≡ row_of byte next }
 {
-    if is_blank(byte) {
+    if is_space(byte) {
         Row::Space
     } else if byte == b'/' && next == b'/' {
         Row::LineComment

@@ -3,12 +3,9 @@ use Rattle.std.specs.Prelude.{ℕ, Bool, not, ◌==◌, ◌||◌}
 use Rattle.std.specs.Char.{is_ascii_digit, is_ascii_graphic, is_ascii_hexdigit}
 use Rattle.std.specs.Int.{is_in_range}
 use Rattle.vlog_words.specs.Words.{is_word_byte}
+pub use Rattle.vlog_words.specs.Words.{is_space}
 use Rattle.vlog_tokens.specs.declared.class.Class.{Class}
 use Rattle.vlog_tokens.specs.declared.class.Class.TheVariants.{SpaceByte, WordByte, LineByte, NameByte, DecimalByte, BinaryDigit, OctalDigit, DecimalDigit, HexDigit}
-
--- a space, a tab, a newline, a form feed or a carriage return
-abbrev pub is_space : ℕ → Bool
-is_space byte = byte == 32 || byte == 9 || byte == 10 || byte == 12 || byte == 13
 
 -- what every base has among its digits: `x X z Z ? _`
 abbrev pub is_unknown_digit : ℕ → Bool

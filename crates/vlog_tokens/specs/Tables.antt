@@ -1,11 +1,17 @@
 -- The tables of marks and of directives.
-use Rattle.std.specs.Prelude.{ℕ, List, map}
-use Rattle.vlog_tokens.specs.declared.table.TheConstants.{MARKS, DIRECTIVES}
+use Rattle.std.specs.Prelude.{ℕ, List, [], ◌∷◌, codes}
 
--- punctuation and operators
+-- punctuation and operators, first those of two bytes
 unfoldable pub marks : List (List ℕ)
-marks = map (λ mark. mark.now) MARKS
+marks =
+    codes "(*" ∷ codes "*)" ∷ codes "<=" ∷ codes "==" ∷ codes "!=" ∷ codes "&&" ∷ codes "||" ∷ codes "~&" ∷
+    codes "~|" ∷ codes "~^" ∷ codes "^~" ∷ codes "(" ∷ codes ")" ∷ codes "[" ∷ codes "]" ∷ codes "{" ∷
+    codes "}" ∷ codes "," ∷ codes ";" ∷ codes ":" ∷ codes "." ∷ codes "#" ∷ codes "@" ∷ codes "=" ∷ codes "?" ∷
+    codes "~" ∷ codes "!" ∷ codes "&" ∷ codes "|" ∷ codes "^" ∷ codes "<" ∷ codes ">" ∷ codes "+" ∷ codes "-" ∷
+    codes "*" ∷ codes "/" ∷ codes "%" ∷ []
 
 -- the words that make the rest of the line blank, directly after a backquote
 unfoldable pub directives : List (List ℕ)
-directives = map (λ word. word.now) DIRECTIVES
+directives =
+    codes "timescale" ∷ codes "celldefine" ∷ codes "endcelldefine" ∷ codes "resetall" ∷
+    codes "default_nettype" ∷ []

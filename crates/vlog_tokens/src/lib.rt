@@ -3,10 +3,8 @@
 
 mod class;
 mod row;
-mod table;
 mod token;
 
 pub use class::Class;
 pub use row::Row;
-pub use table::{DIRECTIVES, MARKS};
 pub use token::{Token, TokenKind};
