@@ -1,5 +1,5 @@
 #!/usr/bin/env python3
-"""Measures in how much time and memory the program reads netlists of several kinds and sizes.
+"""Measures in how much time and memory the program reads netlists of several kinds and sizes, and another one beside it.
 
 Prints a table in Markdown. README.md beside this file says what the kinds and the columns are.
 """
@@ -8,6 +8,7 @@ import argparse
 import itertools
 import os
 import pathlib
+import resource
 import shutil
 import subprocess
 import sys
@@ -19,8 +20,14 @@ SIZES = [1, 4, 16]  # MiB; the last is the greatest that is read
 PROGRAM = pathlib.Path(__file__).resolve().parent.parent / "crates/butramin/out/butramin"
 GNU_TIME = "/usr/bin/time"
 
+# A program that is measured beside it may ask for more memory than a machine has.
+MOST_MEMORY = 8 << 30
+
 # What the program answers to a netlist that it read to the end and that is not of the first form.
 WANTED = (3, "netlist refused: form\n")
+
+# Its status where there is no memory, and that of a process that was ended for it.
+OUT_OF_MEMORY = (8, 137)
 
 # The most that the nest count of a token may be.
 NEST_LIMIT = 500
@@ -97,6 +104,18 @@ def comment_line(i):
     return f"line {i} of a comment, with a * and a / in it\n"
 
 
+LONG_NAME = "m" * (256 << 10)
+LONG_NAMED = f"module {LONG_NAME} (input a);\nendmodule\n" + TOP + f"  {LONG_NAME} u (a)"
+
+
+def named_instance(i):
+    return f", u{i} (a)"
+
+
+def one_letter(_):
+    return ",a"
+
+
 # Of each kind what comes first, the i-th of the pieces that follow, and what comes last.
 KINDS = {
     "many small items": (LIBRARY + TOP, cell, END),
@@ -104,6 +123,8 @@ KINDS = {
     "operators at the limit": (TOP_WITH_WIRES, many_operators, END),
     "deep nests at the limit": (TOP_WITH_WIRES, deep_nest, END),
     "one long comment": (TOP + "/*\n", comment_line, "*/\n" + END),
+    "one long name": (LONG_NAMED, named_instance, ";\n" + END),
+    "names of one letter": (TOP + "  wire a", one_letter, ";\n" + END),
 }
 
 
@@ -130,28 +151,35 @@ def run(command, folder):
         env={**os.environ, "TMP": str(folder)},
         stdin=subprocess.DEVNULL,
         stdout=subprocess.PIPE,
+        stderr=subprocess.DEVNULL,
         text=True,
+        preexec_fn=lambda: resource.setrlimit(resource.RLIMIT_AS, (MOST_MEMORY, MOST_MEMORY)),
     )
     seconds = time.perf_counter() - start
     return (done.returncode, done.stdout), (seconds, int(note.read_text()) * 1024)
 
 
 def program_cost(program, netlist, folder, runs):
-    """The least time of several runs, and the greatest peak."""
+    """The least time of several runs, and the greatest peak. None where there was no memory."""
     words = ["minimise", netlist, "no.vcd", "out.vcd", "--top", "top", "--clock", "clk", "--check", "bad"]
     costs = []
     for _ in range(runs):
         answer, cost = run([program, *words], folder)
+        if answer[0] in OUT_OF_MEMORY:
+            return None
         if answer != WANTED:
             sys.exit(f"{program} answered {answer} and not {WANTED}")
         costs.append(cost)
     return min(seconds for seconds, _ in costs), max(peak for _, peak in costs)
 
 
+def cost_cells(cost, size):
+    """Seconds, and bytes of memory for each byte of the netlist."""
+    return [f"{cost[0]:.3f}", f"{cost[1] / size:.1f}"] if cost else ["no memory", ""]
+
+
 def iverilog_cells(netlist, size, folder, limit):
     """Seconds and bytes of memory for each byte, of one run."""
-    if not shutil.which("iverilog") or limit == 0:
-        return ["", ""]
     (status, _), (seconds, peak) = run(["timeout", str(limit), "iverilog", "-t", "null", "-s", "top", netlist], folder)
     if status == 124:
         return [f"over {limit}", ""]
@@ -162,34 +190,45 @@ def print_row(cells):
     print("| " + " | ".join(cells) + " |", flush=True)
 
 
-def measure(program, kinds, runs, limit, folder):
-    print_row(["kind", "MiB", "seconds", "memory", "iverilog seconds", "iverilog memory", "growth of time", "growth of memory"])
-    print_row(["---"] + ["--:"] * 7)
+def measure(asked, with_iverilog, folder):
+    head = ["kind", "MiB", "seconds", "memory", "growth of time", "growth of memory"]
+    if asked.before:
+        head += ["seconds before", "memory before"]
+    if with_iverilog:
+        head += ["iverilog seconds", "iverilog memory"]
+    print_row(head)
+    print_row(["---"] + ["--:"] * (len(head) - 1))
     netlist = folder / "netlist.v"
-    for kind in kinds:
-        before = None
+    for kind in asked.kind or KINDS:
+        smaller = None
         for mib in SIZES:
             size = mib * MIB
             write_netlist(netlist, kind, size)
-            seconds, peak = program_cost(program, netlist, folder, runs)
-            growth = [f"{seconds / before[0]:.1f}", f"{peak / before[1]:.1f}"] if before else ["", ""]
-            before = seconds, peak
-            row = [kind, str(mib), f"{seconds:.3f}", f"{peak / size:.1f}"]
-            print_row(row + iverilog_cells(netlist, size, folder, limit) + growth)
+            cost = program_cost(asked.program.resolve(), netlist, folder, asked.runs)
+            row = [kind, str(mib), *cost_cells(cost, size)]
+            row += [f"{now / then:.1f}" for now, then in zip(cost, smaller)] if cost and smaller else ["", ""]
+            smaller = cost
+            if asked.before:
+                row += cost_cells(program_cost(asked.before.resolve(), netlist, folder, asked.runs), size)
+            if with_iverilog:
+                row += iverilog_cells(netlist, size, folder, asked.iverilog_limit)
+            print_row(row)
 
 
 def main():
     parser = argparse.ArgumentParser(description=__doc__, formatter_class=argparse.RawDescriptionHelpFormatter)
     parser.add_argument("program", nargs="?", default=PROGRAM, type=pathlib.Path, help="default: %(default)s")
+    parser.add_argument("--before", type=pathlib.Path, help="an earlier program, measured on the same netlists")
     parser.add_argument("--runs", type=int, default=3, help="runs of the program on each netlist (default: 3)")
     parser.add_argument("--kind", choices=KINDS, action="append", help="measure this kind alone")
     parser.add_argument("--iverilog-limit", type=int, default=120, help="seconds; 0 leaves iverilog out (default: 120)")
     asked = parser.parse_args()
-    for needed in (asked.program, GNU_TIME):
+    for needed in filter(None, (asked.program, asked.before, GNU_TIME)):
         if not os.access(needed, os.X_OK):
             parser.error(f"there is no program {needed}")
+    with_iverilog = bool(shutil.which("iverilog")) and asked.iverilog_limit > 0
     with tempfile.TemporaryDirectory() as folder:
-        measure(asked.program.resolve(), asked.kind or KINDS, asked.runs, asked.iverilog_limit, pathlib.Path(folder))
+        measure(asked, with_iverilog, pathlib.Path(folder))
 
 
 if __name__ == "__main__":
