@@ -1,14 +1,9 @@
-//! The program: the top call over real files and standard output. This is the edge that is trusted: nothing is known of
-//! what a real file or a terminal holds.
+//! The program: the top call over real files and standard output.
 #![tactic(auto)]
-
-mod os_shelf;
-mod os_sink;
 
 use bm_base::Status;
 use bm_cli::run;
-use os_shelf::OsShelf;
-use os_sink::OsSink;
+use os_files::{OsShelf, OsSink};
 use std::process::ExitCode;
 use std::rt::{Env, Files};
 use std::{env, io};
