@@ -1,5 +1,5 @@
 //! The last command, carried out again with a change. The files stay as they are.
-use crate::answers::answers;
+use crate::answers::answers_to;
 use crate::asked::Asked;
 use crate::change::Change;
 use crate::device::{Failing, Kind};
@@ -51,7 +51,7 @@ fn row<R: rt::Files + AllocGlobal>(
     files: &Files,
     label: &str,
 ) -> Result<bool, Trouble> {
-    let answers = answers(rt, stage, asked, files)?;
+    let answers = answers_to(rt, stage, asked, files)?;
     answers.put(&mut stage.page, label, files, &last.left)?;
     Ok(answers.memory.fault)
 }

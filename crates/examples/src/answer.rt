@@ -1,7 +1,7 @@
+use crate::deed::Said;
 use crate::files::Files;
-use crate::shown::{put_lines, put_shown};
+use crate::shown::put_lines;
 use crate::trouble::Trouble;
-use bm_base::Status;
 use std::alloc::{AllocError, Global};
 
 /// What a command answers: the lines that say it, and the files that it leaves.
@@ -25,16 +25,10 @@ impl Answer {
         })
     }
 
-    /// The answer of a command of `butramin`: its status and what it printed, without the newline at the end.
-    pub fn of_status(
-        alloc: Global,
-        status: Status,
-        printed: &[u8],
-        files: Files,
-    ) -> Result<Answer, Trouble> {
-        let says = status_line(alloc, status, printed)?;
-        let fault = status == Status::ReadFault || status == Status::WriteFault;
-        Ok(Answer { says, fault, files })
+    /// The answer of a deed that leaves these files.
+    pub fn of_deed(said: Said, files: Files) -> Answer {
+        let Said { says, fault } = said;
+        Answer { says, fault, files }
     }
 
     /// Whether both say the same and leave the same.
@@ -68,22 +62,4 @@ impl Answer {
 fn put_file(page: &mut String, name: &str, bytes: &[u8]) -> Result<(), AllocError> {
     writeln!(page, "  {name}: {} bytes", bytes.len())?;
     put_lines(page, bytes)
-}
-
-fn status_line(alloc: Global, status: Status, printed: &[u8]) -> Result<String, AllocError> {
-    let code = status.code();
-    let mut says = format!(in alloc; "{code}")?;
-    match printed {
-        [] => {}
-        [line @ .., b'\n'] => put_said(&mut says, line, "")?,
-        _ => put_said(&mut says, printed, " (without a newline)")?,
-    }
-    says.push('\n')?;
-    Ok(says)
-}
-
-fn put_said(says: &mut String, line: &[u8], end: &str) -> Result<(), AllocError> {
-    says.push_str(": ")?;
-    put_shown(says, line)?;
-    says.push_str(end)
 }

@@ -1,6 +1,7 @@
 //! What a command answers, in memory and over real files.
 use crate::answer::Answer;
 use crate::asked::{Asked, Scrap};
+use crate::deed::Deed;
 use crate::disk::on_disk;
 use crate::escape::decoded;
 use crate::files::Files;
@@ -37,14 +38,14 @@ impl Answers {
 }
 
 /// What the command answers over these files. The calls that are to fail are used up.
-pub fn answers<R: rt::Files + AllocGlobal>(
+pub fn answers_to<R: rt::Files + AllocGlobal>(
     rt: &R,
     stage: &mut Stage,
     asked: &Asked,
     files: &Files,
 ) -> Result<Answers, Trouble> {
     match asked {
-        Asked::Run(words) => of_run(rt, stage, words, files),
+        Asked::Deed(deed) => of_deed(rt, stage, deed, files),
         _ => {
             let says = says(stage.alloc, asked, files)?;
             let memory = Answer::of_text(stage.alloc, says, files)?;
@@ -56,15 +57,15 @@ pub fn answers<R: rt::Files + AllocGlobal>(
     }
 }
 
-fn of_run<R: rt::Files + AllocGlobal>(
+fn of_deed<R: rt::Files + AllocGlobal>(
     rt: &R,
     stage: &mut Stage,
-    words: &[String],
+    deed: &Deed,
     files: &Files,
 ) -> Result<Answers, Trouble> {
-    let memory = in_memory(stage.alloc, words, files, &stage.failing)?;
+    let memory = in_memory(stage.alloc, deed, files, &stage.failing)?;
     let otherwise = if stage.failing.is_empty() {
-        other(rt, stage, words, files, &memory)?
+        other(rt, stage, deed, files, &memory)?
     } else {
         None
     };
@@ -76,11 +77,11 @@ fn of_run<R: rt::Files + AllocGlobal>(
 fn other<R: rt::Files + AllocGlobal>(
     rt: &R,
     stage: &mut Stage,
-    words: &[String],
+    deed: &Deed,
     files: &Files,
     memory: &Answer,
 ) -> Result<Option<Answer>, Trouble> {
-    let answer = on_disk(rt, words, files)?;
+    let answer = on_disk(rt, deed, files)?;
     let same = answer.same(memory);
     stage.count(same);
     if same { Ok(None) } else { Ok(Some(answer)) }
@@ -88,7 +89,7 @@ fn other<R: rt::Files + AllocGlobal>(
 
 fn says(alloc: Global, asked: &Asked, files: &Files) -> Result<String, Trouble> {
     match asked {
-        Asked::Run(_) => Err(Trouble::Command),
+        Asked::Deed(_) => Err(Trouble::Command),
         Asked::Tree(name) => says_tree(alloc, files, name),
         Asked::Tokens(text) => says_tokens(alloc, text),
         Asked::Design(text) => says_design(alloc, text),

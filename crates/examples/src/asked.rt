@@ -1,11 +1,12 @@
+use crate::deed::Deed;
 use crate::trouble::Trouble;
 use std::alloc::Global;
 
 /// A command over the files.
 #[derive(Drop)]
 pub enum Asked {
-    /// A command of `butramin`, without the program's name.
-    Run(Vec<String>),
+    /// A command that a shelf takes part in.
+    Deed(Deed),
     /// The tree of a file.
     Tree(String),
     /// The tokens of a text.
@@ -25,7 +26,7 @@ impl Asked {
             Asked::Scrap(scrap, text) => {
                 Ok(Asked::Scrap(*scrap, text.replace(alloc, "WORD", word)?))
             }
-            Asked::Run(_) | Asked::Tree(_) => Err(Trouble::Again),
+            Asked::Deed(_) | Asked::Tree(_) => Err(Trouble::Again),
         }
     }
 }

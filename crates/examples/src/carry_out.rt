@@ -1,6 +1,6 @@
 //! A step of a transcript is carried out.
 use crate::again::again;
-use crate::answers::answers;
+use crate::answers::answers_to;
 use crate::asked::Asked;
 use crate::command::{Command, read};
 use crate::device::Failing;
@@ -65,7 +65,7 @@ fn plan(stage: &mut Stage, failing: Failing) -> Result<(), Trouble> {
 
 fn ask<R: rt::Files + AllocGlobal>(rt: &R, stage: &mut Stage, asked: Asked) -> Result<(), Trouble> {
     let found = stage.files.copy(stage.alloc)?;
-    let answers = answers(rt, stage, &asked, &found)?;
+    let answers = answers_to(rt, stage, &asked, &found)?;
     answers.put(&mut stage.page, "", &found, &found)?;
     stage.keep(asked, found, answers.memory)
 }

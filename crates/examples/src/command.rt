@@ -1,7 +1,9 @@
 //! What the lines of a transcript ask for.
 use crate::asked::{Asked, Scrap};
 use crate::change::Change;
+use crate::deed::Deed;
 use crate::device::{Failing, Kind};
+use crate::escape::decoded;
 use crate::trouble::Trouble;
 use std::alloc::Global;
 
@@ -64,7 +66,9 @@ fn read_fail(rest: &str) -> Result<Command, Trouble> {
 
 fn read_asked(alloc: Global, verb: &str, rest: &str) -> Result<Asked, Trouble> {
     match verb {
-        "run" => Ok(Asked::Run(run_words(alloc, rest)?)),
+        "run" => Ok(Asked::Deed(Deed::Run(run_words(alloc, rest)?))),
+        "slice" => Ok(Asked::Deed(read_slice(alloc, rest)?)),
+        "append" => Ok(Asked::Deed(read_append(alloc, rest)?)),
         "tree" => Ok(Asked::Tree(text(alloc, rest)?)),
         "tokens" => Ok(Asked::Tokens(text(alloc, rest)?)),
         "design" => Ok(Asked::Design(text(alloc, rest)?)),
@@ -72,6 +76,26 @@ fn read_asked(alloc: Global, verb: &str, rest: &str) -> Result<Asked, Trouble> {
         "number" => Ok(Asked::Scrap(Scrap::Number, text(alloc, rest)?)),
         _ => Err(Trouble::Command),
     }
+}
+
+// `top.v 10 5`
+fn read_slice(alloc: Global, rest: &str) -> Result<Deed, Trouble> {
+    let (name, rest) = rest.split_once(' ').ok_or(Trouble::Words)?;
+    let (at, count) = rest.split_once(' ').ok_or(Trouble::Words)?;
+    Ok(Deed::Slice {
+        name: text(alloc, name)?,
+        at: number(at)? as u64,
+        count: number(count)?,
+    })
+}
+
+// `top.v reg q;`
+fn read_append(alloc: Global, rest: &str) -> Result<Deed, Trouble> {
+    let (name, rest) = rest.split_once(' ').ok_or(Trouble::Words)?;
+    Ok(Deed::Append {
+        name: text(alloc, name)?,
+        text: decoded(alloc, rest)?,
+    })
 }
 
 fn read_change(alloc: Global, verb: &str, rest: &str) -> Result<Change, Trouble> {

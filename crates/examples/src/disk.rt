@@ -1,26 +1,26 @@
-//! A command of `butramin` over real files, in the folder in which the program runs.
+//! A deed over real files, in the folder in which the program runs.
 use crate::answer::Answer;
+use crate::deed::Deed;
 use crate::files::Files;
-use crate::memory::carried;
 use crate::trouble::Trouble;
 use bm_base::MemSink;
 use os_files::OsShelf;
 use std::alloc::Global;
 use std::{fs, rt};
 
-/// The command over these files, which are made before and removed after it.
+/// The deed over these files, which are made before and removed after it.
 pub fn on_disk<R: rt::Files + AllocGlobal>(
     rt: &R,
-    words: &[String],
+    deed: &Deed,
     files: &Files,
 ) -> Result<Answer, Trouble> {
     let alloc = rt.alloc();
     lay_out(rt, files)?;
     let mut sink = MemSink::new(alloc);
     let mut shelf = OsShelf::new(alloc, rt);
-    let status = carried(alloc, words, &mut shelf, &mut sink);
-    let files = left(rt, words, files)?;
-    Answer::of_status(alloc, status, sink.bytes(), files)
+    let said = deed.carry_out(alloc, &mut shelf, &mut sink)?;
+    let files = left(rt, deed, files)?;
+    Ok(Answer::of_deed(said, files))
 }
 
 fn lay_out<R: rt::Files>(rt: &R, files: &Files) -> Result<(), Trouble> {
@@ -30,18 +30,14 @@ fn lay_out<R: rt::Files>(rt: &R, files: &Files) -> Result<(), Trouble> {
     Ok(())
 }
 
-// What there is under the names of the files and under the words. It is taken away.
-fn left<R: rt::Files + AllocGlobal>(
-    rt: &R,
-    words: &[String],
-    before: &Files,
-) -> Result<Files, Trouble> {
+// What there is under the names of the files and those of the deed. It is taken away.
+fn left<R: rt::Files + AllocGlobal>(rt: &R, deed: &Deed, before: &Files) -> Result<Files, Trouble> {
     let mut files = Files::new(rt.alloc());
     for file in before.list() {
         take(rt, &file.name, &mut files)?;
     }
-    for word in words {
-        take(rt, word, &mut files)?;
+    for name in deed.names() {
+        take(rt, name, &mut files)?;
     }
     remove(rt, &files);
     Ok(files)

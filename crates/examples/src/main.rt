@@ -9,6 +9,7 @@ mod asked;
 mod carry_out;
 mod change;
 mod command;
+mod deed;
 mod device;
 mod disk;
 mod escape;

@@ -1,16 +1,16 @@
-//! A command of `butramin` over files in memory.
+//! A deed over files in memory.
 use crate::answer::Answer;
+use crate::deed::Deed;
 use crate::device::Failing;
 use crate::files::Files;
 use crate::trouble::Trouble;
-use bm_base::{MemShelf, MemSink, Shelf, Sink, Status};
-use bm_cli::run;
+use bm_base::{MemShelf, MemSink};
 use std::alloc::Global;
 
-/// The command over these files, where these calls fail.
+/// The deed over these files, where these calls fail.
 pub fn in_memory(
     alloc: Global,
-    words: &[String],
+    deed: &Deed,
     files: &Files,
     failing: &[Failing],
 ) -> Result<Answer, Trouble> {
@@ -20,19 +20,9 @@ pub fn in_memory(
     for call in failing {
         call.plan(&mut shelf, &mut sink)?;
     }
-    let status = carried(alloc, words, &mut shelf, &mut sink);
-    let files = left(alloc, &shelf, words, files)?;
-    Answer::of_status(alloc, status, sink.bytes(), files)
-}
-
-/// The status of the command.
-pub fn carried<F: Shelf, S: Sink>(
-    alloc: Global,
-    words: &[String],
-    shelf: &mut F,
-    sink: &mut S,
-) -> Status {
-    run(alloc, words, shelf, sink)
+    let said = deed.carry_out(alloc, &mut shelf, &mut sink)?;
+    let files = left(alloc, &shelf, deed, files)?;
+    Ok(Answer::of_deed(said, files))
 }
 
 fn lay_out(shelf: &mut MemShelf, files: &Files) -> Result<(), Trouble> {
@@ -42,19 +32,14 @@ fn lay_out(shelf: &mut MemShelf, files: &Files) -> Result<(), Trouble> {
     Ok(())
 }
 
-// What the shelf has under the names of the files and under the words.
-fn left(
-    alloc: Global,
-    shelf: &MemShelf,
-    words: &[String],
-    before: &Files,
-) -> Result<Files, Trouble> {
+// What the shelf has under the names of the files and those of the deed.
+fn left(alloc: Global, shelf: &MemShelf, deed: &Deed, before: &Files) -> Result<Files, Trouble> {
     let mut files = Files::new(alloc);
     for file in before.list() {
         take(alloc, shelf, &file.name, &mut files)?;
     }
-    for word in words {
-        take(alloc, shelf, word, &mut files)?;
+    for name in deed.names() {
+        take(alloc, shelf, name, &mut files)?;
     }
     Ok(files)
 }

@@ -13,7 +13,7 @@ struct Variable {
 /// The text of a waveform of the module `top` with the clock `clk`. Each row is a name and its bits, as `1 0 01*3`. The row
 /// `bad` has the checker's bits, and the others are ports in their order.
 pub fn waveform(alloc: Global, cycles: usize, rows: &[String]) -> Result<String, Trouble> {
-    let variables = variables(alloc, cycles, rows)?;
+    let variables = read_variables(alloc, cycles, rows)?;
     let mut text = String::new(alloc);
     put_header(&mut text, &variables)?;
     for cycle in 0..cycles {
@@ -22,7 +22,7 @@ pub fn waveform(alloc: Global, cycles: usize, rows: &[String]) -> Result<String,
     Ok(text)
 }
 
-fn variables(alloc: Global, cycles: usize, rows: &[String]) -> Result<Vec<Variable>, Trouble> {
+fn read_variables(alloc: Global, cycles: usize, rows: &[String]) -> Result<Vec<Variable>, Trouble> {
     let mut variables = Vec::new(alloc);
     let mut port = b'#';
     for row in rows {
@@ -31,12 +31,12 @@ fn variables(alloc: Global, cycles: usize, rows: &[String]) -> Result<Vec<Variab
         if name != "bad" {
             port = port.saturating_add(1);
         }
-        variables.push(variable(alloc, cycles, code, name, digits)?)?;
+        variables.push(read_variable(alloc, cycles, code, name, digits)?)?;
     }
     Ok(variables)
 }
 
-fn variable(
+fn read_variable(
     alloc: Global,
     cycles: usize,
     code: u8,
