@@ -11,8 +11,6 @@ mod inputs;
 pub mod laws;
 mod minimise;
 mod netlist;
-#[cfg(test)]
-mod tests;
 mod top;
 mod waveform;
 mod words;

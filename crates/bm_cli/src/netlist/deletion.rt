@@ -94,6 +94,3 @@ fn cuts_are_told()
     ensures cuts { CutsAreTold }
     ensures ends { EndsAreTold }
 {}
-
-#[cfg(test)]
-mod tests;

@@ -1,0 +1,10 @@
+mod bits;
+mod counts;
+mod shelves;
+mod sinks;
+mod statuses;
+mod tokens;
+mod top_call;
+mod traces;
+mod waveforms;
+mod words;

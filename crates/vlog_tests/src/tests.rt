@@ -1,6 +1,0 @@
-mod netlists;
-mod numbers;
-mod productions;
-mod refusals;
-mod tree;
-mod trees;
