@@ -1,0 +1,5 @@
+use Rattle.std.proofs.Common.{◌≡◌, length}
+use Rattle.library_tests.proofs.tests.waveforms.bits.Given as goal
+
+abbrev pub invariant-loop-i : goal.invariant-loop-i
+invariant-loop-i l = length l.bits ≡ length l.values
