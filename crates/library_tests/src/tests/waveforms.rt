@@ -1,5 +1,6 @@
 //! Whole waveforms that are written out by hand, with ranges, escaped names and long codes.
 ghost use Rattle.std.specs.Prelude.{◌≡◌, IfOk, length};
+ghost use Rattle.vcd_writer.specs.Value.{row_width};
 
 use bm_base::{Bits, Name, NoMemory, Range};
 use sqlite_items::Items;
@@ -37,17 +38,25 @@ fn bits(alloc: Global, values: &[bool]) -> Result<Bits, NoMemory>
     Ok(bits)
 }
 
-// One row of so many ports, which are all 0.
-fn wide(alloc: Global, count: usize) -> Result<Vec<u8>, Fail> {
+// So many ports of one bit.
+#[tactic(auto, using(std::proofs::lemmas::List::Sums::sum_by_push))]
+fn single_bits(alloc: Global, count: usize) -> Result<Vec<PortLabel>, NoMemory>
+    ensures { IfOk result (λ ports. row_width ports.items ≡ count) }
+{
     let mut ports = Vec::new(alloc);
-    for _ in 0..count {
+    for i in 0..count {
         ports.push(port(alloc, b"p", 1, None)?)?;
     }
-    let labels = labels(alloc, b"top", ports)?;
+    Ok(ports)
+}
+
+// One row of so many ports, whose bits are all 0.
+fn wide(alloc: Global, count: usize) -> Result<Vec<u8>, NoMemory> {
+    let labels = labels(alloc, b"top", single_bits(alloc, count)?)?;
     let row = Bits::zeros(alloc, count)?;
     let mut trace = Trace::new(alloc, count);
     trace.push(&row)?;
-    Ok(vcd_text(alloc, &trace, &labels, None)?)
+    vcd_text(alloc, &trace, &labels, None)
 }
 
 // The codes go on from `!` to `~`, then to two characters and to three, of which the first counts least. The clock has
