@@ -1,5 +1,5 @@
 use super::item::put_item;
-use super::name::put_name;
+use super::name::{comma_before, put_name};
 use std::alloc::AllocError;
 use vlog_tree::{Design, Module};
 
@@ -15,11 +15,9 @@ fn put_module(text: &mut String, module: &Module) -> Result<(), AllocError> {
     write!(text, "module@{} ", module.at)?;
     put_name(text, &module.name)?;
     text.push_str(" (")?;
-    let mut before = "";
-    for port in module.ports.as_slice() {
-        text.push_str(before)?;
+    for (number, port) in module.ports.as_slice().iter().enumerate() {
+        text.push_str(comma_before(number))?;
         put_name(text, port)?;
-        before = ", ";
     }
     text.push_str(")\n")?;
     for item in module.items.as_slice() {

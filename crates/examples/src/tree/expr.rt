@@ -1,4 +1,4 @@
-use super::name::{put_bit, put_part, put_whole};
+use super::name::{comma_before, put_bit, put_part, put_whole};
 use bm_base::Bits;
 use std::alloc::AllocError;
 use vlog_tree::{BinOp, Expr, UnOp};
@@ -32,21 +32,18 @@ pub fn put_expr(text: &mut String, expr: &Expr) -> Result<(), AllocError> {
             text.push(')')
         }
         Expr::Join(parts) => {
-            let mut before = "{";
-            for part in parts.as_slice() {
-                text.push_str(before)?;
+            text.push('{')?;
+            for (number, part) in parts.as_slice().iter().enumerate() {
+                text.push_str(comma_before(number))?;
                 put_expr(text, part)?;
-                before = ", ";
             }
             text.push('}')
         }
         Expr::Repeat { count, parts } => {
-            write!(text, "{{{count}")?;
-            let mut before = "{";
-            for part in parts.as_slice() {
-                text.push_str(before)?;
+            write!(text, "{{{count}{{")?;
+            for (number, part) in parts.as_slice().iter().enumerate() {
+                text.push_str(comma_before(number))?;
                 put_expr(text, part)?;
-                before = ", ";
             }
             text.push_str("}}")
         }

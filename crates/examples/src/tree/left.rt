@@ -1,4 +1,4 @@
-use super::name::{put_bit, put_part, put_whole};
+use super::name::{comma_before, put_bit, put_part, put_whole};
 use std::alloc::AllocError;
 use vlog_tree::Left;
 
@@ -9,11 +9,10 @@ pub fn put_left(text: &mut String, left: &Left) -> Result<(), AllocError> {
         Left::Bit { at, name, index } => put_bit(text, *at, name, *index),
         Left::Part { at, name, range } => put_part(text, *at, name, *range),
         Left::Join(parts) => {
-            let mut before = "{";
-            for part in parts.as_slice() {
-                text.push_str(before)?;
+            text.push('{')?;
+            for (number, part) in parts.as_slice().iter().enumerate() {
+                text.push_str(comma_before(number))?;
                 put_left(text, part)?;
-                before = ", ";
             }
             text.push('}')
         }

@@ -31,3 +31,8 @@ pub fn put_range(text: &mut String, range: Range) -> Result<(), AllocError> {
     let Range { left, right } = range;
     write!(text, "[{left}:{right}]")
 }
+
+/// What stands before a part of a list, by its number from 0.
+pub fn comma_before(number: usize) -> &'static str {
+    if number == 0 { "" } else { ", " }
+}
