@@ -114,7 +114,7 @@ fn add_register(
     ensures consumes { OnOk result (length cursor.new < length cursor.old) }
 {
     let declared = register(alloc, cursor, shape.kind)?;
-    push_register(alloc, shape, declared, items)?;
+    push_register(shape, declared, items)?;
     Ok(())
 }
 
@@ -179,6 +179,6 @@ fn add_wire(
     ensures consumes { OnOk result (length cursor.new < length cursor.old) }
 {
     let declared = wire(alloc, cursor, depth)?;
-    push_wire(alloc, shape, declared, items)?;
+    push_wire(shape, declared, items)?;
     Ok(())
 }

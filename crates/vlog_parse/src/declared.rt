@@ -100,7 +100,6 @@ fn wire_value(
 
 /// Adds the declaration of a register's or port's name and, right after it, an `Initial` for its value.
 pub fn push_register(
-    alloc: Global,
     shape: Shape,
     declared: Declared,
     items: &mut Items<Item>,
@@ -117,12 +116,7 @@ pub fn push_register(
 }
 
 /// Adds the declaration of a wire's name and, right after it, an `Assign` for its value.
-pub fn push_wire(
-    alloc: Global,
-    shape: Shape,
-    declared: Declared,
-    items: &mut Items<Item>,
-) -> Result<(), NoMemory>
+pub fn push_wire(shape: Shape, declared: Declared, items: &mut Items<Item>) -> Result<(), NoMemory>
     ensures { OnOk result (items.new ≡ items.old ++ spelling.wire_items shape declared) }
 {
     let Declared { at, name, value } = declared;

@@ -63,6 +63,6 @@ fn add_port(alloc: Global, cursor: &mut Cursor<'_, '_>, ports: &mut Ports) -> Re
 {
     let declared = register(alloc, cursor, ports.shape.kind)?;
     ports.names.push(declared.name.clone()?)?;
-    push_register(alloc, ports.shape, declared, &mut ports.items)?;
+    push_register(ports.shape, declared, &mut ports.items)?;
     Ok(())
 }
