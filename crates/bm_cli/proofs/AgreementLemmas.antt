@@ -1,5 +1,5 @@
 -- What `minimise` wrote, `check` accepts.
-use Rattle.std.proofs.Common.{◌≡◌, ◌≢◌, ℕ, ◌+◌, ◌≤◌, List, Bool, Some, [], length, sym, ap, subst, arith, unwrap_or}
+use Rattle.std.proofs.Common.{◌≡◌, ◌≢◌, ℕ, ◌+◌, ◌≤◌, List, Bool, Some, [], length, refl, sym, ap, subst, arith, unwrap_or}
 use Rattle.bm_base.specs.ByName.{get-insert_other}
 use Rattle.bm_base.specs.Held.{Held, bytes_under, holding}
 use Rattle.trace_rows.specs.declared.labels.Labels.{Labels}
@@ -7,6 +7,7 @@ use Rattle.vlog_tree.specs.Machine.{Machine}
 use Rattle.vlog_tree.specs.Run.{checks}
 use Rattle.vlog_tree.specs.Violations.{checks-length}
 use Rattle.bm_cli.specs.Agreement.{IsAcceptedAgain}
+use Rattle.bm_cli.specs.Counted.{accepted_of}
 use Rattle.bm_cli.specs.Input.{IsNetlist, IsWaveform, design_labels}
 use Rattle.bm_cli.specs.Means.{machine_of}
 use Rattle.bm_cli.specs.Minimised.{IsMinimised}
@@ -39,9 +40,12 @@ accepted_again words request held text summary asks (design, rows, netlist, wave
     let machine : Machine = machine_of names design in
     let labels : Labels = design_labels names design in
     let new : Held = holding request.out text held in (
-      design,
-      made.trace,
-      subst (λ bytes. IsNetlist names bytes design) (sym (stays request.out request.inputs.netlist text held asks.fit.1.different.0)) netlist,
-      subst (λ bytes. IsWaveform labels bytes made.trace) (sym (bytes_under-holding request.out text held)) (text_is machine labels rows text summary made short),
-      made.accepted,
+      accepted_of labels made.trace,
+      (
+        design,
+        made.trace,
+        subst (λ bytes. IsNetlist names bytes design) (sym (stays request.out request.inputs.netlist text held asks.fit.1.different.0)) netlist,
+        subst (λ bytes. IsWaveform labels bytes made.trace) (sym (bytes_under-holding request.out text held)) (text_is machine labels rows text summary made short),
+        (made.accepted, refl),
+      ),
     )

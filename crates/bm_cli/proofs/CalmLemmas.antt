@@ -1,40 +1,63 @@
--- Counts that are always 0 don't rise.
-use Rattle.std.proofs.Common.{◌≡◌, ◌⊎◌, inl, inr, ℕ, List, ⊎_elim, unwrap_or, ap, arith}
+-- Where no count rises, neither 5 nor 6 comes.
+use Rattle.std.proofs.Common.{◌≡◌, inl, inr, ℕ, List, [], ◌∷◌, Option, ⊎_elim, true, unwrap_or, refl, ap, sym, ◌∙◌, arith}
 use Rattle.std.specs.Ordering.{nat_cmp}
 use Rattle.std.specs.Cmp.Lexicographic.{slice_cmp}
 use Rattle.std.specs.FinMap.{empty, get-empty}
 use Rattle.bm_base.specs.Counts.{count_of, Rose}
-use Rattle.bm_cli.specs.Command.{FailsReading, FailsReadingOf, FailsWriting, FailsWritingOf}
-use Rattle.bm_cli.specs.Words.{Command, Inputs, check, minimise}
-use Rattle.bm_cli.specs.Yields.{Yields}
+use Rattle.bm_base.specs.Held.{Held}
 use Rattle.bm_base.specs.declared.status.Status.{Status}
-use Rattle.bm_base.specs.declared.status.Status.TheVariants.{Memory}
+use Rattle.bm_base.specs.declared.status.Status.TheVariants as status
+use Rattle.bm_cli.specs.Answer.{words_line}
+use Rattle.bm_cli.specs.Commands.{reads_of, writes_of}
+use Rattle.bm_cli.specs.Keeps.{Keeps, RefusesWords, is_fault}
+use Rattle.bm_cli.specs.Outside.{Outside, SomeRose, outside}
+use Rattle.bm_cli.specs.Prints.{Prints}
+use Rattle.bm_cli.specs.Words.{AskNothing, Asks, Command}
 
 nothing_counted : (name : List ℕ) → count_of empty name ≡ 0
 nothing_counted name = ap (λ found. unwrap_or found 0) (get-empty (slice_cmp nat_cmp) name)
 
-pub no_rise : (name : List ℕ) → Rose (count_of empty name) (count_of empty name) → ⊥
-no_rise name rose = omega (arith, nothing_counted name, rose)
+none_rose : (names : List (List ℕ)) → SomeRose names empty empty → ⊥
+none_rose [] rose = rose
+none_rose (name ∷ names) (inl rose) = omega (arith, nothing_counted name, rose)
+none_rose (name ∷ names) (inr rose) = none_rose names rose
 
-pub no_read_fails : (words : List (List ℕ)) → FailsReading words empty empty → ⊥
-no_read_fails words fails = ⊎_elim (no_rise _) (no_rise _) fails.2
-
-pub no_read_of : (inputs : Inputs) → FailsReadingOf inputs empty empty → ⊥
-no_read_of inputs fails = ⊎_elim (no_rise inputs.netlist) (no_rise inputs.waveform) fails
-
-no_write_of : (command : Command) → FailsWritingOf command empty empty → ⊥
-no_write_of (minimise request) rose = no_rise request.out rose
-no_write_of (check inputs) none = none
-
-pub no_write_fails : (words : List (List ℕ)) → FailsWriting words empty empty → ⊥
-no_write_fails words fails = no_write_of fails.0 fails.2
-
-pub no_fault_at_0 : Rose 0 0 → ⊥
+no_fault_at_0 : Rose 0 0 → ⊥
 no_fault_at_0 rose = omega (arith, rose)
 
--- Where nothing can fail, the status is the expected one, but for want of memory.
-pub calmly : (expected s : Status) (reading printing : Type 0) → (reading → ⊥) → (printing → ⊥) → Yields expected s reading printing → (s ≡ expected) ⊎ (s ≡ Memory)
-calmly expected s reading printing reads prints (inl failed) = absurd (reads failed.1)
-calmly expected s reading printing reads prints (inr (inl is)) = inl is
-calmly expected s reading printing reads prints (inr (inr (inl failed))) = absurd (prints failed.1)
-calmly expected s reading printing reads prints (inr (inr (inr is))) = inr is
+-- a shelf and a sink that never fail
+abbrev pub calm : Option Held → Option (List ℕ) → Outside
+calm held taken = outside held empty empty taken 0
+
+module _ (words : List (List ℕ)) (held held_now : Option Held) (taken taken_now : Option (List ℕ)) (result : Status)
+    (refuses : AskNothing words → RefusesWords (calm held taken) result (calm held_now taken_now))
+    (keeps : (command : Command) → Asks words command → Keeps command (calm held taken) result (calm held_now taken_now)) where
+  pub no_read_fault : result ≡ status.ReadFault → ⊥
+  no_read_fault five = by (refuses (λ command asks. none_rose (reads_of command) ((keeps command asks).unread five).0.rose)).prints
+    where
+      by : Prints status.Words words_line result (Rose 0 0) taken taken_now → ⊥
+      by (inl (is, line)) = let same : status.Words ≡ status.ReadFault = sym is ∙ five in cc
+      by (inr (inl (is, rose, part))) = no_fault_at_0 rose
+      by (inr (inr (is, part))) = let same : status.Memory ≡ status.ReadFault = sym is ∙ five in cc
+
+  pub no_write_fault : result ≡ status.WriteFault → ⊥
+  no_write_fault six = by (refuses (λ command asks.
+      ⊎_elim (λ failed. none_rose (writes_of command) failed.rose) (λ failed. no_fault_at_0 failed.rose) ((keeps command asks).unwritten six))).prints
+    where
+      by : Prints status.Words words_line result (Rose 0 0) taken taken_now → ⊥
+      by (inl (is, line)) = let same : status.Words ≡ status.WriteFault = sym is ∙ six in cc
+      by (inr (inl (is, rose, part))) = no_fault_at_0 rose
+      by (inr (inr (is, part))) = let same : status.Memory ≡ status.WriteFault = sym is ∙ six in cc
+
+-- Of the statuses that no answer has, memory alone is left.
+pub only_memory : (result : Status) → is_fault result ≡ true → (result ≡ status.ReadFault → ⊥) → (result ≡ status.WriteFault → ⊥) → result ≡ status.Memory
+only_memory status.ReadFault fault five six = absurd (five refl)
+only_memory status.WriteFault fault five six = absurd (six refl)
+only_memory status.Memory fault five six = refl
+only_memory status.Done fault five six = absurd cc
+only_memory status.No fault five six = absurd cc
+only_memory status.Words fault five six = absurd cc
+only_memory status.Netlist fault five six = absurd cc
+only_memory status.Waveform fault five six = absurd cc
+only_memory status.Limit fault five six = absurd cc
+only_memory status.Certificate fault five six = absurd cc

@@ -1,19 +1,22 @@
 -- What the circuit says of a trace is what the machine says.
-use Rattle.std.proofs.Common.{◌≡◌, ℕ, zero, suc, ◌-◌, ◌<◌, List, [], ◌∷◌, Bool, true, false, All, Option, Some, None, length, position, take, set, replicate, get_or, refl, sym, ap, ◌∙◌, subst, arith}
+use Rattle.std.proofs.Common.{◌≡◌, ◌⊎◌, inl, inr, ℕ, zero, suc, ◌+◌, ◌-◌, ◌<◌, List, [], ◌∷◌, Bool, true, false, All, Option, Some, None, length, position, slice_get, take, set, replicate, get_or, refl, sym, ap, ◌∙◌, subst, arith}
 use Rattle.std.specs.Option.{IsSome}
 use Rattle.std.proofs.lemmas.List.{take_all}
+use Rattle.std.proofs.lemmas.Option.{none-some}
 use Rattle.std.proofs.lemmas.List.Quantifiers.{position-Some}
 use Rattle.vcd_writer.specs.Waveform.{vcd}
 use Rattle.trace_rows.specs.Cut.{cut}
 use Rattle.trace_rows.specs.CutLemmas.{All-cut}
 use Rattle.trace_rows.specs.declared.labels.Labels.{Labels}
 use Rattle.vlog_tree.specs.Machine.{Machine}
-use Rattle.vlog_tree.specs.Run.{IsFirstAtLast, Violates}
-use Rattle.vlog_tree.specs.Violations.{first_violates, last_is_first}
+use Rattle.vlog_tree.specs.Run.{IsFirstAtLast, Violates, checks as checks_of}
+use Rattle.vlog_tree.specs.Violations.{checks_cut, first_violates, last_is_first, violates_entry}
 use Rattle.bm_cli.specs.Acceptance.{HasLeastCut, IsAccepted}
 use Rattle.bm_cli.specs.Deletion.{EndsBad, IsFirstCut, NoCut, cut_bad}
 use Rattle.bm_cli.specs.Means.{IsMachine}
-use Rattle.bm_cli.specs.Minimised.{IsMinimised, IsReduced}
+use Rattle.bm_cli.specs.Counted.{base_row}
+use Rattle.bm_cli.specs.Minimised.{IsMinimised, IsNoMore, IsReduced}
+use Rattle.trace_rows.specs.Events.{event_count}
 use Rattle.bm_cli.specs.Simulation.{checks, first_bad, zeros}
 use Rattle.bm_cli.specs.declared.answer.Summary.{Summary}
 use Rattle.bm_cli.specs.declared.netlist.circuit.Circuit.{Circuit}
@@ -58,6 +61,19 @@ module _ (machine : Machine) (circuit : Circuit) (is : IsMachine machine circuit
   pub accepted_by : EndsBad circuit rows → NoCut circuit rows → IsAccepted machine rows
   accepted_by ends minimal = record { first_at_last = ends_are_told machine circuit is rows wide ends; no_cut = cuts_are_told machine circuit is rows wide minimal }
 
+entry_before : (n : ℕ) (bits : List Bool) (k : ℕ) (bit : Bool) → slice_get (take n bits) k ≡ Some bit → slice_get bits k ≡ Some bit
+entry_before zero bits k bit at = absurd (none-some bit at)
+entry_before (suc n) [] k bit at = at
+entry_before (suc n) (first ∷ bits) zero bit at = at
+entry_before (suc n) (first ∷ bits) (suc k) bit at = entry_before n bits k bit at
+
+-- Where the first rows of a run violate, the run does.
+pub violated_before : (machine : Machine) (rows : List (List Bool)) (n : ℕ) → IsFirstAtLast machine (take n rows) → Violates machine rows
+violated_before machine rows n first =
+    let at : slice_get (checks_of machine (take n rows)) first.last ≡ Some true = (violates_entry machine (take n rows) first.last).1 first.violates in
+    let cut : slice_get (take n (checks_of machine rows)) first.last ≡ Some true = ap (λ bits. slice_get bits first.last) (sym (checks_cut machine n rows)) ∙ at in
+    (first.last, (violates_entry machine rows first.last).0 (entry_before n (checks_of machine rows) first.last true cut))
+
 -- some bad cycle is a violation
 some_bad : (machine : Machine) (circuit : Circuit) → IsMachine machine circuit → (rows : List (List Bool)) → All (λ row. length row ≡ circuit.inputs) rows
     → (found : Option ℕ) → first_bad circuit (zeros circuit) rows ≡ found → IsSome found → Violates machine rows
@@ -74,14 +90,21 @@ least_by machine circuit is rows wide i ends (from, within, some, before) = reco
   least = λ j lt. not_bad machine circuit is (cut rows j) (All-cut (λ row. length row ≡ circuit.inputs) rows j wide) (before j (omega arith) lt);
 }
 
+no_more : (labels : Labels) (trace rows : List (List Bool)) → (trace ≡ rows) ⊎ (length trace < length rows) → IsNoMore labels trace rows
+no_more labels trace rows (inl same) = inr (ap length same, let even : event_count (base_row labels) trace ≡ event_count (base_row labels) rows = ap (event_count (base_row labels)) same in omega arith)
+no_more labels trace rows (inr shorter) = inl shorter
+
 -- What the circuit reduced, the machine accepts.
 pub minimised_by : (machine : Machine) (circuit : Circuit) → IsMachine machine circuit → (labels : Labels) → length labels.ports ≡ circuit.inputs
-    → (rows : List (List Bool)) (text : List ℕ) (summary : Summary) → IsReduced circuit labels rows text summary → IsMinimised machine labels rows text summary
-minimised_by machine circuit is labels ports rows text summary made = record {
+    → (rows : List (List Bool)) → All (λ row. length row ≡ circuit.inputs) rows → (text : List ℕ) (summary : Summary)
+    → IsReduced circuit labels rows text summary → IsMinimised machine labels rows text summary
+minimised_by machine circuit is labels ports rows wide text summary made = record {
   trace = made.trace;
   widths = subst (λ n. All (λ row. length row ≡ n) made.trace) (sym ports) made.widths;
   accepted = accepted_by machine circuit is made.trace made.widths made.ends made.minimal;
-  shorter = made.shorter;
+  cycles = made.cycle + 1;
+  cut_off = (violations_are_told machine circuit is rows wide).first made.cycle made.bad;
+  no_more = no_more labels made.trace (take (made.cycle + 1) rows) made.kept;
   written = made.written ∙ ap (λ b. vcd made.trace labels (Some b)) (sym (runs_agree machine circuit is made.trace made.widths));
   counted = made.counted;
 }

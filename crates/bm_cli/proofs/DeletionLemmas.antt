@@ -1,5 +1,5 @@
 -- Lemmas on the deletion of single cycles.
-use Rattle.std.proofs.Common.{◌≡◌, ℕ, ◌+◌, ◌-◌, ◌<◌, ◌≤◌, zero, suc, List, [], ◌∷◌, Bool, true, false, Some, length, position, take, arith, refl, ap, sym, subst, ◌∙◌, add-one}
+use Rattle.std.proofs.Common.{◌≡◌, ◌⊎◌, inl, inr, ℕ, ◌+◌, ◌-◌, ◌<◌, ◌≤◌, zero, suc, List, [], ◌∷◌, Bool, true, false, Some, length, position, take, arith, refl, ap, sym, subst, ◌∙◌, add-one}
 use Rattle.std.specs.List.{position_from}
 use Rattle.std.proofs.lemmas.Iterator.Adapters.{position_from-zero}
 use Rattle.std.proofs.lemmas.List.{length-take-le, take_all}
@@ -59,6 +59,12 @@ ends_kept circuit before after v e made = subst (EndsBad circuit) (sym (ap (λ t
 pub ends_some : (circuit : Circuit) (rows : List (List Bool)) → EndsBad circuit rows → 0 < length rows
 ends_some circuit [] ends = absurd (none-some 0 ends)
 ends_some circuit (row ∷ rows) ends = omega arith
+
+-- What was shortened is shorter than what it was at first.
+pub shorter_yet : (initial before after : Rows) → (before ≡ initial) ⊎ (length before.rows < length initial.rows)
+    → length after.rows < length before.rows → length after.rows < length initial.rows
+shorter_yet initial before after (inl same) less = subst (λ trace. length after.rows < length trace.rows) same less
+shorter_yet initial before after (inr shorter) less = omega arith
 
 -- ---- what the machine says
 

@@ -7,10 +7,12 @@ pub mod CodeLemmas
 pub mod ConditionLemmas
 pub mod CutLemmas
 pub mod DeletionLemmas
+pub mod ExclusionLemmas
 pub mod FaultLemmas
 pub mod FileLemmas
 pub mod FormLemmas
 pub mod GateLemmas
+pub mod KeepsLemmas
 pub mod LabelLemmas
 pub mod LineLemmas
 pub mod LoopFree
@@ -36,11 +38,7 @@ pub mod SignalLemmas
 pub mod SimulationLemmas
 pub mod SomeGates
 pub mod SpellLemmas
-pub mod StageLemmas
-pub mod StatusLemmas
 pub mod ToldLemmas
-pub mod TopLemmas
 pub mod TurnLemmas
-pub mod VerdictLemmas
 pub mod WaveformLemmas
 pub mod WordLemmas

@@ -15,9 +15,9 @@ use Rattle.bm_cli.specs.Reading.{ReadsNetlist, StopsAtNetlist, StopsFilling, Sto
 use Rattle.bm_cli.specs.TopNames.{TopNames}
 use Rattle.bm_cli.specs.declared.netlist.circuit.Circuit.{Circuit}
 use Rattle.bm_cli.specs.declared.netlist.fault.NetlistFault.{NetlistFault}
-use Rattle.bm_cli.specs.declared.answer.Refusal.TheVariants.{NoViolation, NotFirstAtLast, Cut, Words, Netlist, NetlistLimit, WaveformForm, ReadFault}
+use Rattle.bm_cli.specs.declared.answer.Refusal.TheVariants.{NoViolation, NotFirstAtLast, Cut, Netlist, NetlistLimit, WaveformForm}
 use Rattle.bm_cli.specs.declared.answer.Stop.{Stop}
-use Rattle.bm_cli.specs.declared.answer.Stop.TheVariants.{Refused, WriteFault, Memory}
+use Rattle.bm_cli.specs.declared.answer.Stop.TheVariants.{Refused, ReadFault, WriteFault, Memory}
 
 -- the bytes that were found are the file's, and they are no more than the limit
 found_within : (limit : ℕ) (file : List ℕ) (found : Option (Vec ℕ Global)) (bytes : Vec ℕ Global)
@@ -70,10 +70,9 @@ stop_told names held name reads reads_now found bytes WriteFault is told stops =
 stop_told names held name reads reads_now found bytes (Refused NoViolation) is told stops = absurd stops
 stop_told names held name reads reads_now found bytes (Refused NotFirstAtLast) is told stops = absurd stops
 stop_told names held name reads reads_now found bytes (Refused (Cut i)) is told stops = absurd stops
-stop_told names held name reads reads_now found bytes (Refused Words) is told stops = absurd stops
 stop_told names held name reads reads_now found bytes (Refused NetlistLimit) is told stops = absurd stops
 stop_told names held name reads reads_now found bytes (Refused WaveformForm) is told stops = absurd stops
-stop_told names held name reads reads_now found bytes (Refused ReadFault) is told stops = absurd stops
+stop_told names held name reads reads_now found bytes ReadFault is told stops = absurd stops
 
 -- The bytes were read, and give no circuit.
 pub stops_told : {X : Type 0} (names : TopNames) (held : Option Held) (name : List ℕ) (reads reads_now : FaultCounts) (found : Option (Vec ℕ Global)) (bytes : Vec ℕ Global) (result : Result X Stop)

@@ -1,43 +1,73 @@
--- What the text of `minimise`, the judgement of `check` and their ends say of the files.
-use Rattle.std.proofs.Common.{◌≡◌, ◌⊎◌, inl, inr, ℕ, List, Bool, Option, None, Result, Ok, Err, take, sym, ap, ◌∙◌, subst}
+-- What the steps of a command say of its end.
+use Rattle.std.proofs.Common.{◌≡◌, ◌⊎◌, inl, inr, ℕ, List, [], ◌∷◌, Bool, Option, Some, None, Result, Ok, Err, take, refl, sym, ap, ◌∙◌, subst}
 use Rattle.std.specs.Option.{IfSome, option_map}
-use Rattle.bm_base.specs.Counts.{FaultCounts, Rose, SameCounts, count_of}
+use Rattle.std.specs.Result.{IfErr, IfOk}
+use Rattle.bm_base.specs.Counts.{FaultCounts, RisesOnlyAt, Rose, SameCounts, count_of}
 use Rattle.bm_base.specs.Held.{Held, holding}
 use Rattle.trace_rows.specs.declared.labels.Labels.{Labels}
 use Rattle.vlog_tree.specs.Run.{IsFirstAtLast, Violates}
 use Rattle.bm_cli.specs.Acceptance.{HasLeastCut, IsAccepted}
+use Rattle.bm_cli.specs.Commands.Check.{Checks}
+use Rattle.bm_cli.specs.Commands.Minimise.{Minimises}
 use Rattle.bm_cli.specs.Counted.{accepted_of}
+use Rattle.bm_cli.specs.Ends.{CallCounts, Gives, IsOnTheWay, Stops}
 use Rattle.bm_cli.specs.Files.{HoldsPrefix}
 use Rattle.bm_cli.specs.Input.{design_labels}
 use Rattle.bm_cli.specs.Judgement.{IsJudged}
 use Rattle.bm_cli.specs.Means.{machine_of}
 use Rattle.bm_cli.specs.Minimised.{IsMinimised, IsReduced}
-use Rattle.bm_cli.specs.Output.{HoldsPart, IsOutText}
-use Rattle.bm_cli.specs.Reading.{ReadsInputs}
-use Rattle.bm_cli.specs.Reason.{CallCounts, CheckReason, CheckStop, MinimiseStop, ReadReason}
+use Rattle.bm_cli.specs.Outside.{OthersStay, Tells}
+use Rattle.bm_cli.specs.Reading.{ReadsInputs, StopsAtFiles}
 use Rattle.bm_cli.specs.Simulation.{first_bad, zeros}
-use Rattle.bm_cli.specs.Verdict.{HasNoViolation, HasViolation}
-use Rattle.bm_cli.specs.Words.{Inputs, Request}
+use Rattle.bm_cli.specs.Verdict.{HasCounted, HasCut, HasMinimised, HasNoViolation, HasNotFirst, RefusesFiles}
+use Rattle.bm_cli.specs.Words.{Command, Inputs, Request, check, minimise}
 use Rattle.bm_cli.specs.declared.answer.Accepted.{Accepted}
-use Rattle.bm_cli.specs.declared.answer.Refusal.TheVariants.{NoViolation, NotFirstAtLast, Cut, Words, Netlist, NetlistLimit, WaveformForm, ReadFault}
+use Rattle.bm_cli.specs.declared.answer.Answer.TheVariants.{Minimised, Accepted as Judged}
+use Rattle.bm_cli.specs.declared.answer.Refusal.TheVariants.{NoViolation, NotFirstAtLast, Cut, Netlist, NetlistLimit, WaveformForm}
 use Rattle.bm_cli.specs.declared.answer.Stop.{Stop}
-use Rattle.bm_cli.specs.declared.answer.Stop.TheVariants.{Refused, WriteFault, Memory}
+use Rattle.bm_cli.specs.declared.answer.Stop.TheVariants.{Refused, ReadFault, WriteFault, Memory}
 use Rattle.bm_cli.specs.declared.answer.Summary.{Summary}
 use Rattle.bm_cli.specs.declared.netlist.circuit.Circuit.{Circuit}
-use Rattle.bm_cli.proofs.CutLemmas.{accepted_by, bad_violates, least_by, minimised_by, must_end, not_bad}
+use Rattle.bm_cli.proofs.CutLemmas.{accepted_by, least_by, minimised_by, must_end, not_bad}
+use Rattle.bm_cli.proofs.FileLemmas.{bytes_under-holding}
 use Rattle.bm_cli.proofs.ReadingLemmas.{input_told}
 
+-- ---- a shelf that holds what it held
+
+pub stays : (P : Held → Type 0) (Q : Held → Held → Type 0) → ((held : Held) → P held → Q held held) → (held now : Option Held) → now ≡ held → IfSome held P → Tells Q held now
+stays P Q so None now same holds = same
+stays P Q so (Some held) now same holds = (held, same, so held holds)
+
+pub unchanged : (command : Command) (held now : Option Held) → now ≡ held → Tells (IsOnTheWay command) held now
+unchanged command None now same = same
+unchanged command (Some held) now same = (held, same, inl refl)
+
+-- ---- a stop at the files
+
+pub minimise_stopped : (request : Request) (held now : Option Held) (counts : CallCounts) (stop : Stop) → now ≡ held
+    → StopsAtFiles request.inputs held counts.reads counts.reads_now stop → Stops (minimise request) held now counts stop
+minimise_stopped request held now counts (Refused why) same stops =
+    stays (λ held. RefusesFiles request.inputs held why) _ (λ held refused. Minimises.refused why refused) held now same stops
+minimise_stopped request held now counts ReadFault same stops = (stops, same)
+minimise_stopped request held now counts WriteFault same stops = absurd stops
+minimise_stopped request held now counts Memory same stops = unchanged (minimise request) held now same
+
+pub check_stopped : (inputs : Inputs) (held now : Option Held) (counts : CallCounts) (stop : Stop) → now ≡ held
+    → StopsAtFiles inputs held counts.reads counts.reads_now stop → Stops (check inputs) held now counts stop
+check_stopped inputs held now counts (Refused why) same stops =
+    stays (λ held. RefusesFiles inputs held why) _ (λ held refused. Checks.refused why refused) held now same stops
+check_stopped inputs held now counts ReadFault same stops = (stops, same)
+check_stopped inputs held now counts WriteFault same stops = absurd stops
+check_stopped inputs held now counts Memory same stops = unchanged (check inputs) held now same
+
+-- ---- `minimise`
+
 module _ (request : Request) (held : Option Held) (circuit : Circuit) (labels : Labels) (rows : List (List Bool)) (read : ReadsInputs request.inputs held circuit labels rows) where
-  pub out_told : (text : List ℕ) (summary : Summary) → IsReduced circuit labels rows text summary → IsOutText request held text summary
-  out_told text summary made =
+  pub made_told : (text : List ℕ) (summary : Summary) → IsReduced circuit labels rows text summary → IfSome held (λ held. HasMinimised request.inputs held text summary)
+  made_told text summary made =
       input_told request.inputs held circuit labels rows (λ design rows. IsMinimised (machine_of request.inputs.names design) (design_labels request.inputs.names design) rows text summary) read
       (λ wide. subst (λ l. IsMinimised (machine_of request.inputs.names read.netlist.design) l rows text summary) read.netlist.labelled
-      (minimised_by (machine_of request.inputs.names read.netlist.design) circuit read.netlist.machine labels read.ports rows text summary made))
-
-  pub violation_told : (text : List ℕ) (summary : Summary) → IsReduced circuit labels rows text summary → IfSome held (HasViolation request.inputs)
-  violation_told text summary made =
-      input_told request.inputs held circuit labels rows (λ design rows. Violates (machine_of request.inputs.names design) rows) read
-      (λ wide. bad_violates (machine_of request.inputs.names read.netlist.design) circuit read.netlist.machine rows wide made.cycle made.bad)
+      (minimised_by (machine_of request.inputs.names read.netlist.design) circuit read.netlist.machine labels read.ports rows wide text summary made))
 
   no_violation_told : first_bad circuit (zeros circuit) rows ≡ None → IfSome held (HasNoViolation request.inputs)
   no_violation_told none =
@@ -45,66 +75,79 @@ module _ (request : Request) (held : Option Held) (circuit : Circuit) (labels : 
       (λ wide. not_bad (machine_of request.inputs.names read.netlist.design) circuit read.netlist.machine rows wide none)
 
   -- Nothing was reduced, for want of memory or since there is no violation.
-  pub reducing_stopped : (counts : CallCounts) (stop : Stop) → (stop ≡ Refused NoViolation) ⊎ (stop ≡ Memory)
-      → (stop ≡ Refused NoViolation → first_bad circuit (zeros circuit) rows ≡ None) → MinimiseStop request held counts stop
-  reducing_stopped counts stop (inl is) none = subst (MinimiseStop request held counts) (sym is) (no_violation_told (none is))
-  reducing_stopped counts stop (inr is) none = subst (MinimiseStop request held counts) (sym is) tt
+  pub reducing_stopped : (now : Option Held) (counts : CallCounts) (stop : Stop) → now ≡ held → (stop ≡ Refused NoViolation) ⊎ (stop ≡ Memory)
+      → (stop ≡ Refused NoViolation → first_bad circuit (zeros circuit) rows ≡ None) → Stops (minimise request) held now counts stop
+  reducing_stopped now counts stop same (inl is) none = subst (Stops (minimise request) held now counts) (sym is)
+      (stays (HasNoViolation request.inputs) _ (λ held holds. Minimises.no_violation holds) held now same (no_violation_told (none is)))
+  reducing_stopped now counts stop same (inr is) none = subst (Stops (minimise request) held now counts) (sym is) (unchanged (minimise request) held now same)
 
--- a stop at the files is one of `minimise`
-pub minimise_stopped : (request : Request) (held : Option Held) (counts : CallCounts) (stop : Stop) → ReadReason request.inputs held counts stop → MinimiseStop request held counts stop
-minimise_stopped request held counts (Refused NoViolation) reason = absurd reason
-minimise_stopped request held counts (Refused NotFirstAtLast) reason = reason
-minimise_stopped request held counts (Refused (Cut i)) reason = reason
-minimise_stopped request held counts (Refused Words) reason = reason
-minimise_stopped request held counts (Refused (Netlist why)) reason = reason
-minimise_stopped request held counts (Refused NetlistLimit) reason = reason
-minimise_stopped request held counts (Refused WaveformForm) reason = reason
-minimise_stopped request held counts (Refused ReadFault) reason = reason
-minimise_stopped request held counts WriteFault reason = absurd reason
-minimise_stopped request held counts Memory reason = reason
+-- OUT was written on a shelf that holds what it held.
+pub written : (request : Request) (held mid now : Option Held) (text : List ℕ) (summary : Summary) → IfSome held (λ held. HasMinimised request.inputs held text summary)
+    → mid ≡ held → now ≡ option_map (holding request.out text) mid → Gives (minimise request) held now (Minimised summary)
+written request None mid now text summary made same holds = holds ∙ ap (option_map (holding request.out text)) same
+written request (Some held) mid now text summary made same holds =
+    (holding request.out text held, holds ∙ ap (option_map (holding request.out text)) same, Minimises.minimised text summary made)
 
--- and one of `check`
-pub check_stopped : (inputs : Inputs) (held : Option Held) (counts : CallCounts) (stop : Stop) → ReadReason inputs held counts stop → CheckStop inputs held counts stop
-check_stopped inputs held counts (Refused NoViolation) reason = reason
-check_stopped inputs held counts (Refused NotFirstAtLast) reason = absurd reason
-check_stopped inputs held counts (Refused (Cut i)) reason = absurd reason
-check_stopped inputs held counts (Refused Words) reason = reason
-check_stopped inputs held counts (Refused (Netlist why)) reason = reason
-check_stopped inputs held counts (Refused NetlistLimit) reason = reason
-check_stopped inputs held counts (Refused WaveformForm) reason = reason
-check_stopped inputs held counts (Refused ReadFault) reason = reason
-check_stopped inputs held counts WriteFault reason = reason
-check_stopped inputs held counts Memory reason = reason
+-- OUT was written in part, or not at all.
+pub partly_written : (request : Request) (held mid now : Option Held) (text : List ℕ) (summary : Summary) → IfSome held (λ held. HasMinimised request.inputs held text summary)
+    → mid ≡ held → HoldsPrefix request.out text mid now → Tells (IsOnTheWay (minimise request)) held now
+partly_written request held mid now text summary made same (inl kept) = unchanged (minimise request) held now (kept ∙ same)
+partly_written request None mid now text summary made same (inr (kept, holds)) = holds ∙ ap (option_map (holding request.out (take kept text))) same
+partly_written request (Some held) mid now text summary made same (inr (kept, holds)) = (
+  holding request.out (take kept text) held,
+  holds ∙ ap (option_map (holding request.out (take kept text))) same,
+  inr (
+    Minimised summary,
+    holding request.out text held,
+    Minimises.minimised text summary made,
+    inr (inl (kept, ap (λ bytes. holding request.out (take kept bytes) held) (sym (bytes_under-holding request.out text held)))),
+  ),
+)
+
+-- ---- `check`
 
 module _ (inputs : Inputs) (held : Option Held) (circuit : Circuit) (labels : Labels) (rows : List (List Bool)) (read : ReadsInputs inputs held circuit labels rows) where
-  pub judged : (counts : CallCounts) (result : Result Accepted Stop) → IsJudged circuit labels rows result → CheckReason inputs held counts result
-  judged counts (Ok accepted) (ends, minimal, is) =
-      input_told inputs held circuit labels rows (λ design rows. IsAccepted (machine_of inputs.names design) rows × (accepted ≡ accepted_of (design_labels inputs.names design) rows)) read
-      (λ wide. (accepted_by (machine_of inputs.names read.netlist.design) circuit read.netlist.machine rows wide ends minimal, is ∙ ap (λ l. accepted_of l rows) read.netlist.labelled))
-  judged counts (Err (Refused NotFirstAtLast)) none =
-      input_told inputs held circuit labels rows (λ design rows. IsFirstAtLast (machine_of inputs.names design) rows → ⊥) read
-      (λ wide first. none (must_end (machine_of inputs.names read.netlist.design) circuit read.netlist.machine rows wide first))
-  judged counts (Err (Refused (Cut i))) (ends, first) =
-      input_told inputs held circuit labels rows (λ design rows. HasLeastCut (machine_of inputs.names design) rows i) read
-      (λ wide. least_by (machine_of inputs.names read.netlist.design) circuit read.netlist.machine rows wide i ends first)
-  judged counts (Err (Refused NoViolation)) none = absurd none
-  judged counts (Err (Refused Words)) none = absurd none
-  judged counts (Err (Refused (Netlist why))) none = absurd none
-  judged counts (Err (Refused NetlistLimit)) none = absurd none
-  judged counts (Err (Refused WaveformForm)) none = absurd none
-  judged counts (Err (Refused ReadFault)) none = absurd none
-  judged counts (Err WriteFault) none = absurd none
-  judged counts (Err Memory) reason = tt
+  accepted_told : (now : Option Held) (numbers : Accepted) → now ≡ held → IsJudged circuit labels rows (Ok numbers) → Gives (check inputs) held now (Judged numbers)
+  accepted_told now numbers same (ends, minimal, is) = stays (λ held. HasCounted inputs held numbers) _ (λ held counted. Checks.accepted numbers counted) held now same
+      (input_told inputs held circuit labels rows (λ design rows. IsAccepted (machine_of inputs.names design) rows × (numbers ≡ accepted_of (design_labels inputs.names design) rows)) read
+      (λ wide. (accepted_by (machine_of inputs.names read.netlist.design) circuit read.netlist.machine rows wide ends minimal, is ∙ ap (λ l. accepted_of l rows) read.netlist.labelled)))
 
--- A file was written on a shelf that holds what it held.
-pub written_later : (request : Request) (old mid new : Option Held) (text : List ℕ) → mid ≡ old → new ≡ option_map (holding request.out text) mid → new ≡ option_map (holding request.out text) old
-written_later request old mid new text same holds = holds ∙ ap (option_map (holding request.out text)) same
+  rejected_told : (now : Option Held) (counts : CallCounts) (stop : Stop) → now ≡ held → IsJudged circuit labels rows (Err stop) → Stops (check inputs) held now counts stop
+  rejected_told now counts (Refused NotFirstAtLast) same none = stays (HasNotFirst inputs) _ (λ held not_first. Checks.not_first not_first) held now same
+      (input_told inputs held circuit labels rows (λ design rows. IsFirstAtLast (machine_of inputs.names design) rows → ⊥) read
+      (λ wide first. none (must_end (machine_of inputs.names read.netlist.design) circuit read.netlist.machine rows wide first)))
+  rejected_told now counts (Refused (Cut i)) same (ends, first) = stays (λ held. HasCut inputs held i) _ (λ held goes. Checks.cut i goes) held now same
+      (input_told inputs held circuit labels rows (λ design rows. HasLeastCut (machine_of inputs.names design) rows i) read
+      (λ wide. least_by (machine_of inputs.names read.netlist.design) circuit read.netlist.machine rows wide i ends first))
+  rejected_told now counts (Refused NoViolation) same none = absurd none
+  rejected_told now counts (Refused (Netlist why)) same none = absurd none
+  rejected_told now counts (Refused NetlistLimit) same none = absurd none
+  rejected_told now counts (Refused WaveformForm) same none = absurd none
+  rejected_told now counts ReadFault same none = absurd none
+  rejected_told now counts WriteFault same none = absurd none
+  rejected_told now counts Memory same reason = unchanged (check inputs) held now same
 
-pub part_later : (request : Request) (old mid new : Option Held) (text : List ℕ) (summary : Summary) → mid ≡ old → IsOutText request old text summary
-    → HoldsPrefix request.out text mid new → HoldsPart request old new
-part_later request old mid new text summary same is (inl kept) = inl (kept ∙ same)
-part_later request old mid new text summary same is (inr (kept, holds)) = inr (text, summary, kept, is, holds ∙ ap (option_map (holding request.out (take kept text))) same)
+  pub judged_well : (now : Option Held) (result : Result Accepted Stop) → now ≡ held → IsJudged circuit labels rows result
+      → IfOk result (λ numbers. Gives (check inputs) held now (Judged numbers))
+  judged_well now (Ok numbers) same judged = accepted_told now numbers same judged
+  judged_well now (Err stop) same judged = tt
+
+  pub judged_ill : (now : Option Held) (counts : CallCounts) (result : Result Accepted Stop) → now ≡ held → IsJudged circuit labels rows result
+      → IfErr result (Stops (check inputs) held now counts)
+  judged_ill now counts (Ok numbers) same judged = tt
+  judged_ill now counts (Err stop) same judged = rejected_told now counts stop same judged
+
+-- ---- counts
 
 -- A count that the reading did not change has risen after it.
 pub rose_later : (name : List ℕ) (old mid new : FaultCounts) → SameCounts old mid → Rose (count_of mid name) (count_of new name) → Rose (count_of old name) (count_of new name)
 rose_later name old mid new same rose = subst (λ n. Rose n (count_of new name)) (same name) rose
+
+pub others_kept : (names : List (List ℕ)) (old mid new : FaultCounts) → OthersStay names old mid → SameCounts mid new → OthersStay names old new
+others_kept names old mid new others same q other = same q ∙ others q other
+
+pub only_this : (name : List ℕ) (old mid new : FaultCounts) → SameCounts old mid → RisesOnlyAt name mid new → OthersStay (name ∷ []) old new
+only_this name old mid new same rises q other = rises.others q (λ is. other (inl is)) ∙ same q
+
+pub all_kept : (names : List (List ℕ)) (old new : FaultCounts) → SameCounts old new → OthersStay names old new
+all_kept names old new same q other = same q

@@ -1,7 +1,8 @@
 -- What `minimise` wrote, `check` accepts.
 use Rattle.std.specs.Prelude.{ℕ, ◌≤◌, List, length}
 use Rattle.bm_base.specs.Held.{Held, holding}
-use Rattle.bm_cli.specs.Verdict.{HasAccepted, HasMinimised}
+use Rattle.bm_cli.specs.Verdict.{HasCounted, HasMinimised}
+use Rattle.bm_cli.specs.declared.answer.Accepted.{Accepted}
 use Rattle.bm_cli.specs.Words.{Asks, Inputs, Request, minimise}
 use Rattle.bm_cli.specs.declared.answer.Summary.{Summary}
 
@@ -13,4 +14,4 @@ written_by request = record { netlist = request.inputs.netlist; waveform = reque
 abbrev pub IsAcceptedAgain : Type 0
 IsAcceptedAgain = (words : List (List ℕ)) (request : Request) (held : Held) (text : List ℕ) (summary : Summary)
     → Asks words (minimise request) → HasMinimised request.inputs held text summary → length text ≤ 1048576
-    → HasAccepted (written_by request) (holding request.out text held)
+    → (numbers : Accepted) × HasCounted (written_by request) (holding request.out text held) numbers

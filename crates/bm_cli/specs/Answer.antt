@@ -4,12 +4,10 @@ use Rattle.bm_base.specs.declared.status.Status.{Status}
 use Rattle.bm_base.specs.declared.status.Status.TheVariants as status
 use Rattle.bm_cli.specs.declared.answer.Accepted.{Accepted}
 use Rattle.bm_cli.specs.declared.answer.Summary.{Summary}
-use Rattle.bm_cli.specs.declared.answer.Success.{Success}
-use Rattle.bm_cli.specs.declared.answer.Success.TheVariants as success
 use Rattle.bm_cli.specs.declared.answer.Refusal.{Refusal}
-use Rattle.bm_cli.specs.declared.answer.Refusal.TheVariants.{NoViolation, NotFirstAtLast, Cut, Words, Netlist, NetlistLimit, WaveformForm, ReadFault}
+use Rattle.bm_cli.specs.declared.answer.Refusal.TheVariants.{NoViolation, NotFirstAtLast, Cut, Netlist, NetlistLimit, WaveformForm}
 use Rattle.bm_cli.specs.declared.answer.Answer.{Answer}
-use Rattle.bm_cli.specs.declared.answer.Answer.TheVariants.{Done, Refused}
+use Rattle.bm_cli.specs.declared.answer.Answer.TheVariants.{Minimised, Accepted as Judged, Refused}
 use Rattle.bm_cli.specs.declared.netlist.fault.NetlistFault.{NetlistFault}
 use Rattle.bm_cli.specs.declared.netlist.fault.NetlistFault.TheVariants as fault
 
@@ -17,14 +15,13 @@ abbrev pub refusal_status : Refusal → Status
 refusal_status NoViolation = status.No
 refusal_status NotFirstAtLast = status.No
 refusal_status (Cut cycle) = status.No
-refusal_status Words = status.Words
 refusal_status (Netlist why) = status.Netlist
 refusal_status NetlistLimit = status.Limit
 refusal_status WaveformForm = status.Waveform
-refusal_status ReadFault = status.ReadFault
 
 abbrev pub status_of : Answer → Status
-status_of (Done success) = status.Done
+status_of (Minimised summary) = status.Done
+status_of (Judged accepted) = status.Done
 status_of (Refused refusal) = refusal_status refusal
 
 abbrev pub summary_line : Summary → List ℕ
@@ -34,10 +31,6 @@ summary_line s = codes "minimised: cycles " ++ decimal s.cycles_before ++ codes 
 
 abbrev pub accepted_line : Accepted → List ℕ
 accepted_line a = codes "yes: cycles " ++ decimal a.cycles ++ codes ", events " ++ decimal a.events ++ codes ", windows 0 certified, 0 open\n"
-
-abbrev pub success_line : Success → List ℕ
-success_line (success.Minimised summary) = summary_line summary
-success_line (success.Accepted accepted) = accepted_line accepted
 
 abbrev pub fault_line : NetlistFault → List ℕ
 fault_line (fault.BadByte at) = codes "netlist refused: L1 at " ++ decimal at ++ codes "\n"
@@ -54,13 +47,20 @@ abbrev pub refusal_line : Refusal → List ℕ
 refusal_line NoViolation = codes "no violation\n"
 refusal_line NotFirstAtLast = codes "no: N1\n"
 refusal_line (Cut cycle) = codes "no: N2 cycle " ++ decimal cycle ++ codes "\n"
-refusal_line Words = codes "words refused\n"
 refusal_line (Netlist why) = fault_line why
 refusal_line NetlistLimit = codes "limit: netlist 16777216\n"
 refusal_line WaveformForm = codes "waveform refused: form\n"
-refusal_line ReadFault = codes "read fault\n"
 
 -- the line, with its newline
 abbrev pub line_of : Answer → List ℕ
-line_of (Done success) = success_line success
+line_of (Minimised summary) = summary_line summary
+line_of (Judged accepted) = accepted_line accepted
 line_of (Refused refusal) = refusal_line refusal
+
+-- what is printed where the words ask for nothing
+abbrev pub words_line : List ℕ
+words_line = codes "words refused\n"
+
+-- what is printed where a file could not be read
+abbrev pub read_fault_line : List ℕ
+read_fault_line = codes "read fault\n"

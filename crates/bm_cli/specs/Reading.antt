@@ -13,11 +13,14 @@ use Rattle.bm_cli.specs.Means.{IsMachine, machine_of}
 use Rattle.bm_cli.specs.NetlistFaults.{IsNetlistFault, IsReason}
 use Rattle.bm_cli.specs.TopNames.{TopNames}
 use Rattle.bm_cli.specs.Waveform.{AreWords}
+use Rattle.bm_cli.specs.Commands.{files_of}
+use Rattle.bm_cli.specs.Outside.{SomeRose}
+use Rattle.bm_cli.specs.Verdict.{RefusesFiles}
 use Rattle.bm_cli.specs.Words.{Inputs}
 use Rattle.bm_cli.specs.declared.answer.Refusal.{Refusal}
-use Rattle.bm_cli.specs.declared.answer.Refusal.TheVariants.{Netlist, NetlistLimit, ReadFault}
+use Rattle.bm_cli.specs.declared.answer.Refusal.TheVariants.{Netlist, NetlistLimit}
 use Rattle.bm_cli.specs.declared.answer.Stop.{Stop}
-use Rattle.bm_cli.specs.declared.answer.Stop.TheVariants.{Refused, Memory}
+use Rattle.bm_cli.specs.declared.answer.Stop.TheVariants.{Refused, ReadFault, WriteFault, Memory}
 use Rattle.bm_cli.specs.declared.form.FormFault.{FormFault}
 use Rattle.bm_cli.specs.declared.form.FormFault.TheVariants.{Form, Memory as NoRoom}
 use Rattle.bm_cli.specs.declared.netlist.circuit.Circuit.{Circuit}
@@ -31,7 +34,7 @@ pub record ReadsOnly (name : List ℕ) (held held_now : Option Held) (reads read
 
 -- The bytes of a file do not come only for a fault whose count has risen, and for want of memory.
 abbrev pub StopsFilling : List ℕ → FaultCounts → FaultCounts → Stop → Type 0
-StopsFilling name reads reads_now stop = ((stop ≡ Refused ReadFault) × Rose (count_of reads name) (count_of reads_now name)) ⊎ (stop ≡ Memory)
+StopsFilling name reads reads_now stop = ((stop ≡ ReadFault) × Rose (count_of reads name) (count_of reads_now name)) ⊎ (stop ≡ Memory)
 
 -- A step that reads a file stops for the file's form, for a fault whose count has risen, or for want of memory.
 abbrev pub StopsReading : Refusal → List ℕ → FaultCounts → FaultCounts → Stop → Type 0
@@ -68,7 +71,7 @@ StopsFor names bytes other = ⊥
 abbrev pub StopsAtNetlist : TopNames → Option Held → List ℕ → FaultCounts → FaultCounts → Stop → Type 0
 StopsAtNetlist names held name reads reads_now (Refused (Netlist why)) = IfSome held (λ held. IsNetlistFault names (bytes_under held name) why)
 StopsAtNetlist names held name reads reads_now (Refused NetlistLimit) = IfSome held (λ held. 16777216 < length (bytes_under held name))
-StopsAtNetlist names held name reads reads_now (Refused ReadFault) = Rose (count_of reads name) (count_of reads_now name)
+StopsAtNetlist names held name reads reads_now ReadFault = Rose (count_of reads name) (count_of reads_now name)
 StopsAtNetlist names held name reads reads_now Memory = Unit {0}
 StopsAtNetlist names held name reads reads_now other = ⊥
 
@@ -86,3 +89,10 @@ pub record ReadsInputs (inputs : Inputs) (held : Option Held) (circuit : Circuit
   pub netlist : ReadsNetlist inputs.names held inputs.netlist circuit labels
   pub waveform : IfSome held (λ held. IsWaveform labels (bytes_under held inputs.waveform) rows)
   pub ports : length labels.ports ≡ circuit.inputs
+
+-- Why the reading of both files stopped: they are refused, a fault whose count has risen, or want of memory.
+abbrev pub StopsAtFiles : Inputs → Option Held → FaultCounts → FaultCounts → Stop → Type 0
+StopsAtFiles inputs held reads reads_now (Refused why) = IfSome held (λ held. RefusesFiles inputs held why)
+StopsAtFiles inputs held reads reads_now ReadFault = SomeRose (files_of inputs) reads reads_now
+StopsAtFiles inputs held reads reads_now WriteFault = ⊥
+StopsAtFiles inputs held reads reads_now Memory = Unit {0}

@@ -1,16 +1,18 @@
 -- What NETLIST and STIM or TRACE are, by the bytes that a shelf holds under their names.
-use Rattle.std.specs.Prelude.{◌≡◌, ◌<◌, ◌≤◌, ℕ, List, Bool, length}
+use Rattle.std.specs.Prelude.{◌≡◌, ◌<◌, ℕ, List, Bool, length}
 use Rattle.bm_base.specs.Held.{Held, bytes_under}
 use Rattle.vlog_tree.specs.declared.design.Design.{Design}
 use Rattle.vlog_tree.specs.Run.{IsFirstAtLast, Violates}
 use Rattle.bm_cli.specs.Acceptance.{HasLeastCut, IsAccepted}
 use Rattle.bm_cli.specs.Counted.{accepted_of}
-use Rattle.bm_cli.specs.Input.{IsNetlist, IsNoNetlist, IsNoWaveform, IsWaveform, design_labels}
+use Rattle.bm_cli.specs.Input.{IsNetlist, IsNoWaveform, IsWaveform, design_labels}
 use Rattle.bm_cli.specs.Means.{machine_of}
 use Rattle.bm_cli.specs.Minimised.{IsMinimised}
 use Rattle.bm_cli.specs.NetlistFaults.{IsNetlistFault}
 use Rattle.bm_cli.specs.Words.{Inputs}
 use Rattle.bm_cli.specs.declared.answer.Accepted.{Accepted}
+use Rattle.bm_cli.specs.declared.answer.Refusal.{Refusal}
+use Rattle.bm_cli.specs.declared.answer.Refusal.TheVariants.{Cut, Netlist, NetlistLimit, NoViolation, NotFirstAtLast, WaveformForm}
 use Rattle.bm_cli.specs.declared.answer.Summary.{Summary}
 use Rattle.bm_cli.specs.declared.netlist.fault.NetlistFault.{NetlistFault}
 
@@ -24,34 +26,27 @@ HasWaveform inputs held design rows = IsWaveform (design_labels inputs.names des
 abbrev pub HasNetlistFault : Inputs → Held → NetlistFault → Type 0
 HasNetlistFault inputs held why = IsNetlistFault inputs.names (bytes_under held inputs.netlist) why
 
--- NETLIST is refused for some reason.
-abbrev pub HasBadNetlist : Inputs → Held → Type 0
-HasBadNetlist inputs held = (why : NetlistFault) × HasNetlistFault inputs held why
-
--- NETLIST is no longer than one may be, and is not of the first form.
-abbrev pub HasNoNetlist : Inputs → Held → Type 0
-HasNoNetlist inputs held = (length (bytes_under held inputs.netlist) ≤ 16777216) × IsNoNetlist inputs.names (bytes_under held inputs.netlist)
-
 -- NETLIST is longer than one may be.
 abbrev pub HasLongNetlist : Inputs → Held → Type 0
 HasLongNetlist inputs held = 16777216 < length (bytes_under held inputs.netlist)
-
--- NETLIST is of the first form.
-abbrev pub HasSomeNetlist : Inputs → Held → Type 0
-HasSomeNetlist inputs held = (design : Design) × HasNetlist inputs held design
 
 -- NETLIST is of the first form, and the waveform is not.
 abbrev pub HasNoWaveform : Inputs → Held → Type 0
 HasNoWaveform inputs held = (design : Design) × HasNetlist inputs held design
     × IsNoWaveform (design_labels inputs.names design) (bytes_under held inputs.waveform)
 
+-- Why the two files are refused. Each reason excludes those before it.
+abbrev pub RefusesFiles : Inputs → Held → Refusal → Type 0
+RefusesFiles inputs held NetlistLimit = HasLongNetlist inputs held
+RefusesFiles inputs held (Netlist why) = HasNetlistFault inputs held why
+RefusesFiles inputs held WaveformForm = HasNoWaveform inputs held
+RefusesFiles inputs held NoViolation = ⊥
+RefusesFiles inputs held NotFirstAtLast = ⊥
+RefusesFiles inputs held (Cut cycle) = ⊥
+
 -- Both are of the first form, and this holds of the design and the rows.
 abbrev pub HasInput : Inputs → Held → (Design → List (List Bool) → Type 0) → Type 0
 HasInput inputs held P = (design : Design) × (rows : List (List Bool)) × HasNetlist inputs held design × HasWaveform inputs held design rows × P design rows
-
--- Some cycle violates.
-abbrev pub HasViolation : Inputs → Held → Type 0
-HasViolation inputs held = HasInput inputs held (λ design rows. Violates (machine_of inputs.names design) rows)
 
 -- No cycle violates.
 abbrev pub HasNoViolation : Inputs → Held → Type 0
@@ -62,18 +57,10 @@ abbrev pub HasMinimised : Inputs → Held → List ℕ → Summary → Type 0
 HasMinimised inputs held text summary = HasInput inputs held (λ design rows.
     IsMinimised (machine_of inputs.names design) (design_labels inputs.names design) rows text summary)
 
--- The trace is accepted.
-abbrev pub HasAccepted : Inputs → Held → Type 0
-HasAccepted inputs held = HasInput inputs held (λ design rows. IsAccepted (machine_of inputs.names design) rows)
-
 -- The trace is accepted, and these are its numbers.
 abbrev pub HasCounted : Inputs → Held → Accepted → Type 0
 HasCounted inputs held accepted = HasInput inputs held (λ design rows.
     IsAccepted (machine_of inputs.names design) rows × (accepted ≡ accepted_of (design_labels inputs.names design) rows))
-
--- The trace is not accepted.
-abbrev pub HasRejected : Inputs → Held → Type 0
-HasRejected inputs held = HasInput inputs held (λ design rows. IsAccepted (machine_of inputs.names design) rows → ⊥)
 
 -- The trace does not violate first at its last cycle.
 abbrev pub HasNotFirst : Inputs → Held → Type 0

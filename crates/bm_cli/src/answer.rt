@@ -55,26 +55,6 @@ impl Accepted {
     }
 }
 
-/// What a command came to, where its work is done.
-#[derive(Clone, Copy, Debug, PartialEq, Eq)]
-pub enum Success {
-    Minimised(Summary),
-    Accepted(Accepted),
-}
-
-impl Success {
-    ghost use Rattle.bm_cli.specs.Answer.{success_line};
-
-    fn line(&self, alloc: Global) -> Result<String, AllocError>
-        ensures { IfOk result (λ line. string_bytes line ≡ success_line self.now) }
-    {
-        match self {
-            Success::Minimised(summary) => summary.line(alloc),
-            Success::Accepted(accepted) => accepted.line(alloc),
-        }
-    }
-}
-
 /// Why a command's work was not done, where a line says so.
 #[derive(Clone, Copy, Debug, PartialEq, Eq)]
 pub enum Refusal {
@@ -84,16 +64,12 @@ pub enum Refusal {
     NotFirstAtLast,
     /// A trace violates without this cycle, which is the first such one.
     Cut { cycle: usize },
-    /// The words are of no command's form.
-    Words,
     /// The netlist is refused.
     Netlist(NetlistFault),
     /// The netlist is longer than one may be.
     NetlistLimit,
     /// The waveform is not of the first form.
     WaveformForm,
-    /// A file could not be read.
-    ReadFault,
 }
 
 impl Refusal {
@@ -104,11 +80,9 @@ impl Refusal {
     {
         match self {
             Refusal::NoViolation | Refusal::NotFirstAtLast | Refusal::Cut { .. } => Status::No,
-            Refusal::Words => Status::Words,
             Refusal::Netlist(_) => Status::Netlist,
             Refusal::NetlistLimit => Status::Limit,
             Refusal::WaveformForm => Status::Waveform,
-            Refusal::ReadFault => Status::ReadFault,
         }
     }
 
@@ -119,19 +93,20 @@ impl Refusal {
             Refusal::NoViolation => String::from_str(alloc, "no violation\n"),
             Refusal::NotFirstAtLast => String::from_str(alloc, "no: N1\n"),
             Refusal::Cut { cycle } => format!(in alloc; "no: N2 cycle {cycle}\n"),
-            Refusal::Words => String::from_str(alloc, "words refused\n"),
             Refusal::Netlist(fault) => fault.line(alloc),
             Refusal::NetlistLimit => String::from_str(alloc, "limit: netlist 16777216\n"),
             Refusal::WaveformForm => String::from_str(alloc, "waveform refused: form\n"),
-            Refusal::ReadFault => String::from_str(alloc, "read fault\n"),
         }
     }
 }
 
-/// An answer that prints a line.
+/// What a command answers.
 #[derive(Clone, Copy, Debug, PartialEq, Eq)]
 pub enum Answer {
-    Done(Success),
+    /// The trace that was made is written.
+    Minimised(Summary),
+    /// The trace is accepted.
+    Accepted(Accepted),
     Refused(Refusal),
 }
 
@@ -142,7 +117,7 @@ impl Answer {
         ensures { result ≡ status_of self.now }
     {
         match self {
-            Answer::Done(_) => Status::Done,
+            Answer::Minimised(_) | Answer::Accepted(_) => Status::Done,
             Answer::Refused(refusal) => refusal.status(),
         }
     }
@@ -152,7 +127,8 @@ impl Answer {
         ensures { IfOk result (λ line. string_bytes line ≡ line_of self.now) }
     {
         match self {
-            Answer::Done(success) => success.line(alloc),
+            Answer::Minimised(summary) => summary.line(alloc),
+            Answer::Accepted(accepted) => accepted.line(alloc),
             Answer::Refused(refusal) => refusal.line(alloc),
         }
     }
@@ -163,6 +139,8 @@ impl Answer {
 pub enum Stop {
     /// It is refused, and a line says why.
     Refused(Refusal),
+    /// Reading failed.
+    ReadFault,
     /// Writing failed.
     WriteFault,
     /// There is no memory.

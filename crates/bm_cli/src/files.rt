@@ -56,6 +56,8 @@ pub fn write_file<F: Shelf>(shelf: &mut F, name: &str, text: &[u8]) -> Result<()
     ensures ok { OnOk result (F.held shelf.new ≡ option_map (holding name.now text.now) (F.held shelf.old)) }
     ensures err { OnErr result (HoldsPrefix name.now text.now (F.held shelf.old) (F.held shelf.new)) }
     ensures cause { IsErrOf result Fault.Failed → Rose (count_of (F.writes shelf.old) name.now) (count_of (F.writes shelf.new) name.now) }
+    ensures writes { RisesOnlyAt name.now (F.writes shelf.old) (F.writes shelf.new) }
+    ensures reads { SameCounts (F.reads shelf.old) (F.reads shelf.new) }
 {
     shelf.create(name)?;
     shelf.append(name, text)

@@ -6,8 +6,9 @@ ghost use Rattle.bm_cli.specs.Asked.{given_inputs, names_of};
 ghost use Rattle.bm_cli.specs.Circuit.{IsInOrder};
 ghost use Rattle.bm_cli.specs.Files.{IsWithin};
 ghost use Rattle.bm_cli.specs.Input.{IsNoWaveform, IsWaveform};
-ghost use Rattle.bm_cli.specs.Reading.{ReadsInputs, ReadsNetlist, ReadsOnly, StopsAtNetlist, StopsFilling, StopsReading, stop_of};
-ghost use Rattle.bm_cli.specs.Reason.{ReadReason};
+ghost use Rattle.bm_cli.specs.Commands.{files_of};
+ghost use Rattle.bm_cli.specs.Outside.{OthersStay};
+ghost use Rattle.bm_cli.specs.Reading.{ReadsInputs, ReadsNetlist, ReadsOnly, StopsAtFiles, StopsAtNetlist, StopsFilling, StopsReading, stop_of};
 ghost use Rattle.bm_cli.specs.Waveform.{AreScalars, AreWords};
 
 use crate::answer::{Refusal, Stop};
@@ -34,6 +35,7 @@ pub fn read_inputs<F: Shelf>(
     shelf: &mut F,
 ) -> Result<(Circuit, Labels, Trace), Stop>
     ensures held { F.held shelf.new ≡ F.held shelf.old }
+    ensures reads { OthersStay (files_of (given_inputs asked.now)) (F.reads shelf.old) (F.reads shelf.new) }
     ensures writes { SameCounts (F.writes shelf.old) (F.writes shelf.new) }
     ensures in_order { IfOk result (λ read. IsInOrder read.0) }
     ensures scalars { IfOk result (λ read. AreScalars read.1.ports) }
@@ -41,7 +43,7 @@ pub fn read_inputs<F: Shelf>(
     ensures width { IfOk result (λ read. read.2.width ≡ read.0.inputs) }
     ensures some { IfOk result (λ read. 0 < length read.2.rows) }
     ensures read { IfOk result (λ read. ReadsInputs (given_inputs asked.now) (F.held shelf.old) read.0 read.1 read.2.rows) }
-    ensures stops { IfErr result (ReadReason (given_inputs asked.now) (F.held shelf.old) (record { reads = F.reads shelf.old; reads_now = F.reads shelf.new; writes = F.writes shelf.old; writes_now = F.writes shelf.new })) }
+    ensures stops { IfErr result (StopsAtFiles (given_inputs asked.now) (F.held shelf.old) (F.reads shelf.old) (F.reads shelf.new)) }
 {
     let (circuit, labels) = read_netlist(alloc, shelf, asked.netlist, &asked.names)?;
     let trace = read_trace(alloc, shelf, asked.waveform, &labels)?;
@@ -102,7 +104,7 @@ fn read_input<F: Shelf>(
 {
     match read_file(alloc, shelf, name, limit) {
         Ok(found) => Ok(found),
-        Err(Fault::Failed) => Err(Stop::Refused(Refusal::ReadFault)),
+        Err(Fault::Failed) => Err(Stop::ReadFault),
         Err(Fault::Memory) => Err(Stop::Memory),
     }
 }

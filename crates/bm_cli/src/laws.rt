@@ -1,10 +1,12 @@
 //! Laws of the forms that the commands read. Each is the contract of a function that does nothing.
 ghost use Rattle.std.specs.Prelude.{◌≡◌, Bool, List};
 ghost use Rattle.bm_cli.specs.Agreement.{IsAcceptedAgain};
+ghost use Rattle.bm_cli.specs.Commands.{HasOneStatus};
 ghost use Rattle.bm_cli.specs.Input.{SpellsRows};
 ghost use Rattle.bm_cli.specs.LoopFree.{FirstFormIsLoopFree};
 ghost use Rattle.bm_cli.specs.NetlistFaults.{IsNetlistOrFault, IsOneNetlistFault};
 ghost use Rattle.bm_cli.specs.Waveform.{AreScalars, AreWords};
+ghost use Rattle.bm_cli.specs.Words.{Inputs, Request, check, minimise};
 
 use trace_rows::Labels;
 use vlog_lexer::laws::{one_fault, one_token_list, tokens_or_fault};
@@ -44,3 +46,19 @@ pub fn netlists_are_loop_free()
 pub fn check_accepts_what_minimise_wrote()
     ensures { IsAcceptedAgain }
 {}
+
+/// What `minimise` answers on given bytes has one status.
+pub fn minimise_has_one_status()
+    ensures { (request : Request) → HasOneStatus (minimise request) }
+{
+    bytes_spell_one_design();
+    netlist_or_fault();
+}
+
+/// What `check` answers on given bytes has one status.
+pub fn check_has_one_status()
+    ensures { (inputs : Inputs) → HasOneStatus (check inputs) }
+{
+    bytes_spell_one_design();
+    netlist_or_fault();
+}

@@ -3,8 +3,11 @@ ghost use Rattle.std.specs.Prelude.{◌≡◌, ◌⊎◌, Err, IfErr, IfOk, None
 ghost use Rattle.bm_cli.specs.Asked.{request_of};
 ghost use Rattle.bm_cli.specs.Circuit.{IsInOrder};
 ghost use Rattle.bm_cli.specs.Minimised.{IsReduced};
-ghost use Rattle.bm_cli.specs.Output.{HoldsOut, HoldsPart};
-ghost use Rattle.bm_cli.specs.Reason.{MinimiseReason};
+ghost use Rattle.bm_cli.specs.Commands.{reads_of, writes_of};
+ghost use Rattle.bm_cli.specs.Ends.{Gives, Stops};
+ghost use Rattle.bm_cli.specs.Outside.{OthersStay};
+ghost use Rattle.bm_cli.specs.Words.{minimise};
+ghost use Rattle.bm_cli.specs.declared.answer.Answer.TheVariants.{Minimised};
 ghost use Rattle.bm_cli.specs.Simulation.{first_bad, zeros};
 ghost use Rattle.bm_cli.specs.Waveform.{AreScalars};
 
@@ -24,10 +27,11 @@ use vcd_writer::vcd_text;
 /// Reads the netlist and the stimulus, and writes the stimulus cut off after its first violating cycle, without the
 /// cycles that can go.
 pub fn minimise<F: Shelf>(alloc: Global, asked: &Minimise, shelf: &mut F) -> Result<Summary, Stop>
-    ensures written { IfOk result (λ summary. HoldsOut (request_of asked.now) summary (F.held shelf.old) (F.held shelf.new)) }
-    ensures part { OnErr result (HoldsPart (request_of asked.now) (F.held shelf.old) (F.held shelf.new)) }
-    ensures refused { (refusal : Refusal) → result ≡ Err (Stop.Refused refusal) → F.held shelf.new ≡ F.held shelf.old }
-    ensures reason { MinimiseReason (request_of asked.now) (F.held shelf.old) (record { reads = F.reads shelf.old; reads_now = F.reads shelf.new; writes = F.writes shelf.old; writes_now = F.writes shelf.new }) result }
+    ensures answers { IfOk result (λ summary. Gives (minimise (request_of asked.now)) (F.held shelf.old) (F.held shelf.new) (Minimised summary)) }
+    ensures stops { IfErr result (Stops (minimise (request_of asked.now)) (F.held shelf.old) (F.held shelf.new)
+        (record { reads = F.reads shelf.old; reads_now = F.reads shelf.new; writes = F.writes shelf.old; writes_now = F.writes shelf.new })) }
+    ensures reads { OthersStay (reads_of (minimise (request_of asked.now))) (F.reads shelf.old) (F.reads shelf.new) }
+    ensures writes { OthersStay (writes_of (minimise (request_of asked.now))) (F.writes shelf.old) (F.writes shelf.new) }
 {
     let (circuit, labels, trace) = read_inputs(alloc, &asked.inputs, shelf)?;
     let (text, summary) = reduce(alloc, &circuit, &labels, trace)?;

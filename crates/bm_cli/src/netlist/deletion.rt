@@ -1,5 +1,5 @@
 //! The deletion of the cycles that a violation does not need.
-ghost use Rattle.std.specs.Prelude.{◌≡◌, ◌<◌, ◌≤◌, IfOk, IsSome, OnErr, OnOk, length};
+ghost use Rattle.std.specs.Prelude.{◌≡◌, ◌⊎◌, ◌<◌, ◌≤◌, IfOk, IsSome, OnErr, OnOk, length};
 ghost use Rattle.std.specs.Bool.{OnFalse, OnTrue};
 ghost use Rattle.bm_cli.specs.Circuit.{IsInOrder};
 ghost use Rattle.bm_cli.specs.Deletion.{CutsAreTold, EndsAreTold, EndsBad, IsFirstCut, NoCut, cut_bad};
@@ -21,7 +21,7 @@ pub fn delete_cycles(alloc: Global, circuit: &Circuit, mut trace: Trace) -> Resu
     ensures width { IfOk result (λ made. made.width ≡ trace.width) }
     ensures ends { IfOk result (λ made. EndsBad circuit.now made.rows) }
     ensures some { IfOk result (λ made. 0 < length made.rows) }
-    ensures shorter { IfOk result (λ made. length made.rows ≤ length trace.rows) }
+    ensures kept { IfOk result (λ made. (made ≡ trace) ⊎ (length made.rows < length trace.rows)) }
     ensures minimal { IfOk result (λ made. NoCut circuit.now made.rows) }
 {
     while delete_pass(alloc, circuit, &mut trace)? {}

@@ -1,4 +1,4 @@
-use Rattle.std.proofs.Common.{◌≡◌, ◌≤◌, length}
+use Rattle.std.proofs.Common.{◌≡◌, ◌⊎◌, ◌<◌, length}
 use Rattle.bm_cli.specs.Deletion.{EndsBad}
 use Rattle.bm_cli.proofs.netlist.deletion.delete_cycles.Given as goal
 
@@ -6,7 +6,7 @@ abbrev pub invariant-loop-trace : goal.invariant-loop-trace
 invariant-loop-trace l = record {
   width : l.trace.width ≡ l.initial.trace.width;
   ends : EndsBad l.circuit l.trace.rows;
-  shorter : length l.trace.rows ≤ length l.initial.trace.rows;
+  kept : (l.trace ≡ l.initial.trace) ⊎ (length l.trace.rows < length l.initial.trace.rows);
 }
 
 abbrev pub decreases-loop-trace : goal.decreases-loop-trace
