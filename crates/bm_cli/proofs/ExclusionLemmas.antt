@@ -16,7 +16,7 @@ use Rattle.bm_cli.specs.Words.{Inputs, Request}
 use Rattle.bm_cli.specs.declared.answer.Accepted.{Accepted}
 use Rattle.bm_cli.specs.declared.answer.Answer.{Answer}
 use Rattle.bm_cli.specs.declared.answer.Refusal.{Refusal}
-use Rattle.bm_cli.specs.declared.answer.Refusal.TheVariants.{Cut, Netlist, NetlistLimit, NoViolation, NotFirstAtLast, WaveformForm}
+use Rattle.bm_cli.specs.declared.answer.Refusal.TheVariants.{Cut, Limit, Netlist, NoViolation, NotFirstAtLast, WaveformForm}
 use Rattle.bm_cli.specs.declared.answer.Summary.{Summary}
 use Rattle.bm_cli.specs.declared.netlist.fault.NetlistFault.{NetlistFault}
 use Rattle.bm_cli.proofs.CutLemmas.{violated_before}
@@ -68,7 +68,7 @@ not_both {P} laws inputs held (design, rows, netlist, waveform, holds) (other, o
 -- Files that are refused are not both read.
 no_input : {P : Design → List (List Bool) → Type 0} → (laws : Laws) (inputs : Inputs) (held : Held) (why : Refusal)
     → RefusesFiles inputs held why → HasInput inputs held P → ⊥
-no_input laws inputs held NetlistLimit refused input = no_long inputs held refused input
+no_input laws inputs held (Limit what) refused input = no_long inputs held refused.1 input
 no_input laws inputs held (Netlist why) refused input = no_netlist laws inputs held why refused input
 no_input laws inputs held WaveformForm refused input = no_rows laws inputs held refused input
 no_input laws inputs held NoViolation refused input = refused
@@ -82,19 +82,19 @@ no_waveform laws inputs held why refused (design, netlist, none) =
 
 one_refusal : (laws : Laws) (inputs : Inputs) (held : Held) (one other : Refusal)
     → RefusesFiles inputs held one → RefusesFiles inputs held other → refusal_status one ≡ refusal_status other
-one_refusal laws inputs held NetlistLimit NetlistLimit first second = refl
-one_refusal laws inputs held NetlistLimit (Netlist why) first second = absurd (too_long inputs held first second.short)
-one_refusal laws inputs held NetlistLimit WaveformForm first second = absurd (too_long inputs held first second.1.short)
-one_refusal laws inputs held NetlistLimit NoViolation first second = absurd second
-one_refusal laws inputs held NetlistLimit NotFirstAtLast first second = absurd second
-one_refusal laws inputs held NetlistLimit (Cut cycle) first second = absurd second
-one_refusal laws inputs held (Netlist why) NetlistLimit first second = absurd (too_long inputs held second first.short)
+one_refusal laws inputs held (Limit what) (Limit other) first second = refl
+one_refusal laws inputs held (Limit what) (Netlist why) first second = absurd (too_long inputs held first.1 second.short)
+one_refusal laws inputs held (Limit what) WaveformForm first second = absurd (too_long inputs held first.1 second.1.short)
+one_refusal laws inputs held (Limit what) NoViolation first second = absurd second
+one_refusal laws inputs held (Limit what) NotFirstAtLast first second = absurd second
+one_refusal laws inputs held (Limit what) (Cut cycle) first second = absurd second
+one_refusal laws inputs held (Netlist why) (Limit what) first second = absurd (too_long inputs held second.1 first.short)
 one_refusal laws inputs held (Netlist why) (Netlist other) first second = refl
 one_refusal laws inputs held (Netlist why) WaveformForm first second = absurd (no_waveform laws inputs held why first second)
 one_refusal laws inputs held (Netlist why) NoViolation first second = absurd second
 one_refusal laws inputs held (Netlist why) NotFirstAtLast first second = absurd second
 one_refusal laws inputs held (Netlist why) (Cut cycle) first second = absurd second
-one_refusal laws inputs held WaveformForm NetlistLimit first second = absurd (too_long inputs held second first.1.short)
+one_refusal laws inputs held WaveformForm (Limit what) first second = absurd (too_long inputs held second.1 first.1.short)
 one_refusal laws inputs held WaveformForm (Netlist why) first second = absurd (no_waveform laws inputs held why second first)
 one_refusal laws inputs held WaveformForm WaveformForm first second = refl
 one_refusal laws inputs held WaveformForm NoViolation first second = absurd second

@@ -19,7 +19,7 @@ use Rattle.bm_cli.specs.Words.{Command, Inputs, Request, check, minimise}
 use Rattle.bm_cli.specs.declared.answer.Answer.{Answer}
 use Rattle.bm_cli.specs.declared.answer.Answer.TheVariants.{Minimised, Accepted as Judged, Refused as Refusing}
 use Rattle.bm_cli.specs.declared.answer.Refusal.{Refusal}
-use Rattle.bm_cli.specs.declared.answer.Refusal.TheVariants.{Cut, Netlist, NetlistLimit, NoViolation, NotFirstAtLast, WaveformForm}
+use Rattle.bm_cli.specs.declared.answer.Refusal.TheVariants.{Cut, Limit, Netlist, NoViolation, NotFirstAtLast, WaveformForm}
 use Rattle.bm_cli.specs.declared.answer.Stop.{Stop}
 use Rattle.bm_cli.specs.declared.answer.Stop.TheVariants.{Refused, ReadFault, WriteFault, Memory}
 use Rattle.bm_cli.proofs.FileLemmas.{bytes_under-holding}
@@ -31,7 +31,7 @@ refusal_no_fault NoViolation = refl
 refusal_no_fault NotFirstAtLast = refl
 refusal_no_fault (Cut cycle) = refl
 refusal_no_fault (Netlist why) = refl
-refusal_no_fault NetlistLimit = refl
+refusal_no_fault (Limit what) = refl
 refusal_no_fault WaveformForm = refl
 
 pub no_fault : (answer : Answer) → is_fault (status_of answer) ≡ false
@@ -175,7 +175,7 @@ refusal_not_done NoViolation zero = cc
 refusal_not_done NotFirstAtLast zero = cc
 refusal_not_done (Cut cycle) zero = cc
 refusal_not_done (Netlist why) zero = cc
-refusal_not_done NetlistLimit zero = cc
+refusal_not_done (Limit what) zero = cc
 refusal_not_done WaveformForm zero = cc
 
 done_when : (request : Request) (before after : Outside) (held now : Held) (answer : Answer) → Minimises request held answer now → status_of answer ≡ status.Done
@@ -224,7 +224,7 @@ answer_no_words (Refusing NoViolation) two = cc
 answer_no_words (Refusing NotFirstAtLast) two = cc
 answer_no_words (Refusing (Cut cycle)) two = cc
 answer_no_words (Refusing (Netlist why)) two = cc
-answer_no_words (Refusing NetlistLimit) two = cc
+answer_no_words (Refusing (Limit what)) two = cc
 answer_no_words (Refusing WaveformForm) two = cc
 
 printed_no_words : (own : Status) (line : List ℕ) (result : Status) (cause : Type 0) (taken taken_now : Option (List ℕ))

@@ -1,5 +1,5 @@
 -- What a shelf tells of a file is what was read of it.
-use Rattle.std.proofs.Common.{◌≡◌, ◌≤◌, ◌<◌, inl, inr, ℕ, List, Option, Some, None, Result, Ok, Err, length, subst, sym}
+use Rattle.std.proofs.Common.{◌≡◌, ◌≤◌, ◌<◌, inl, inr, ℕ, List, Option, Some, None, Result, Ok, Err, length, subst, sym, refl}
 use Rattle.std.specs.Option.{IfSome}
 use Rattle.std.specs.Result.{IfErr, IfOk}
 use Rattle.std.specs.Prelude.{Vec}
@@ -8,6 +8,7 @@ use Rattle.bm_base.specs.Counts.{FaultCounts}
 use Rattle.bm_base.specs.Held.{Held, bytes_under}
 use Rattle.trace_rows.specs.declared.labels.Labels.{Labels}
 use Rattle.vlog_tree.specs.declared.design.Design.{Design}
+use Rattle.bm_base.specs.declared.size.Size.TheVariants as size
 use Rattle.bm_cli.specs.Files.{IsWithin}
 use Rattle.bm_cli.specs.Input.{IsNetlist, IsRead, SpellsNetlist}
 use Rattle.bm_cli.specs.NetlistFaults.{IsNetlistFault, IsReason}
@@ -15,7 +16,7 @@ use Rattle.bm_cli.specs.Reading.{ReadsNetlist, StopsAtNetlist, StopsFilling, Sto
 use Rattle.bm_cli.specs.TopNames.{TopNames}
 use Rattle.bm_cli.specs.declared.netlist.circuit.Circuit.{Circuit}
 use Rattle.bm_cli.specs.declared.netlist.fault.NetlistFault.{NetlistFault}
-use Rattle.bm_cli.specs.declared.answer.Refusal.TheVariants.{NoViolation, NotFirstAtLast, Cut, Netlist, NetlistLimit, WaveformForm}
+use Rattle.bm_cli.specs.declared.answer.Refusal.TheVariants.{NoViolation, NotFirstAtLast, Cut, Netlist, Limit, WaveformForm}
 use Rattle.bm_cli.specs.declared.answer.Stop.{Stop}
 use Rattle.bm_cli.specs.declared.answer.Stop.TheVariants.{Refused, ReadFault, WriteFault, Memory}
 
@@ -49,9 +50,9 @@ filling_stopped names held name reads reads_now stop (inr is) = subst (StopsAtNe
 
 -- The file is too long.
 pub long_told : (held : Option Held) (name : List ℕ) (found : Option (Vec ℕ Global)) → found ≡ None
-    → IfSome held (λ held. IsWithin 16777216 (bytes_under held name) found) → IfSome held (λ held. 16777216 < length (bytes_under held name))
+    → IfSome held (λ held. IsWithin 16777216 (bytes_under held name) found) → IfSome held (λ held. (size.Netlist ≡ size.Netlist) × (16777216 < length (bytes_under held name)))
 long_told None name found is told = tt
-long_told (Some held) name found is told = subst (IsWithin 16777216 (bytes_under held name)) is told
+long_told (Some held) name found is told = (refl, subst (IsWithin 16777216 (bytes_under held name)) is told)
 
 -- The reason applies to the file.
 reason_told : (names : TopNames) (held : Option Held) (name : List ℕ) (found : Option (Vec ℕ Global)) (bytes : Vec ℕ Global) (why : NetlistFault)
@@ -70,7 +71,7 @@ stop_told names held name reads reads_now found bytes WriteFault is told stops =
 stop_told names held name reads reads_now found bytes (Refused NoViolation) is told stops = absurd stops
 stop_told names held name reads reads_now found bytes (Refused NotFirstAtLast) is told stops = absurd stops
 stop_told names held name reads reads_now found bytes (Refused (Cut i)) is told stops = absurd stops
-stop_told names held name reads reads_now found bytes (Refused NetlistLimit) is told stops = absurd stops
+stop_told names held name reads reads_now found bytes (Refused (Limit what)) is told stops = absurd stops
 stop_told names held name reads reads_now found bytes (Refused WaveformForm) is told stops = absurd stops
 stop_told names held name reads reads_now found bytes ReadFault is told stops = absurd stops
 

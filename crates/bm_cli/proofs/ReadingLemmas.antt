@@ -14,7 +14,7 @@ use Rattle.bm_cli.specs.Reading.{ReadsInputs, ReadsNetlist, StopsAtFiles, StopsA
 use Rattle.bm_cli.specs.Verdict.{HasInput, HasNoWaveform}
 use Rattle.bm_cli.specs.Waveform.{AreWords}
 use Rattle.bm_cli.specs.Words.{Inputs}
-use Rattle.bm_cli.specs.declared.answer.Refusal.TheVariants.{NoViolation, NotFirstAtLast, Cut, Netlist, NetlistLimit, WaveformForm}
+use Rattle.bm_cli.specs.declared.answer.Refusal.TheVariants.{NoViolation, NotFirstAtLast, Cut, Netlist, Limit, WaveformForm}
 use Rattle.bm_cli.specs.declared.answer.Stop.{Stop}
 use Rattle.bm_cli.specs.declared.answer.Stop.TheVariants.{Refused, ReadFault, WriteFault, Memory}
 use Rattle.bm_cli.specs.declared.netlist.circuit.Circuit.{Circuit}
@@ -37,7 +37,7 @@ no_waveform inputs (Some held) circuit labels read refused =
 pub netlist_stopped : (inputs : Inputs) (held : Option Held) (reads reads_now : FaultCounts) (stop : Stop)
     → StopsAtNetlist inputs.names held inputs.netlist reads reads_now stop → StopsAtFiles inputs held reads reads_now stop
 netlist_stopped inputs held reads reads_now (Refused (Netlist why)) stops = stops
-netlist_stopped inputs held reads reads_now (Refused NetlistLimit) stops = stops
+netlist_stopped inputs held reads reads_now (Refused (Limit what)) stops = stops
 netlist_stopped inputs held reads reads_now ReadFault stops = inl stops
 netlist_stopped inputs held reads reads_now Memory stops = tt
 netlist_stopped inputs held reads reads_now WriteFault stops = absurd stops

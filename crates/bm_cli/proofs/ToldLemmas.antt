@@ -23,7 +23,7 @@ use Rattle.bm_cli.specs.Verdict.{HasCounted, HasCut, HasMinimised, HasNoViolatio
 use Rattle.bm_cli.specs.Words.{Command, Inputs, Request, check, minimise}
 use Rattle.bm_cli.specs.declared.answer.Accepted.{Accepted}
 use Rattle.bm_cli.specs.declared.answer.Answer.TheVariants.{Minimised, Accepted as Judged}
-use Rattle.bm_cli.specs.declared.answer.Refusal.TheVariants.{NoViolation, NotFirstAtLast, Cut, Netlist, NetlistLimit, WaveformForm}
+use Rattle.bm_cli.specs.declared.answer.Refusal.TheVariants.{NoViolation, NotFirstAtLast, Cut, Netlist, Limit, WaveformForm}
 use Rattle.bm_cli.specs.declared.answer.Stop.{Stop}
 use Rattle.bm_cli.specs.declared.answer.Stop.TheVariants.{Refused, ReadFault, WriteFault, Memory}
 use Rattle.bm_cli.specs.declared.answer.Summary.{Summary}
@@ -121,7 +121,7 @@ module _ (inputs : Inputs) (held : Option Held) (circuit : Circuit) (labels : La
       (λ wide. least_by (machine_of inputs.names read.netlist.design) circuit read.netlist.machine rows wide i ends first))
   rejected_told now counts (Refused NoViolation) same none = absurd none
   rejected_told now counts (Refused (Netlist why)) same none = absurd none
-  rejected_told now counts (Refused NetlistLimit) same none = absurd none
+  rejected_told now counts (Refused (Limit what)) same none = absurd none
   rejected_told now counts (Refused WaveformForm) same none = absurd none
   rejected_told now counts ReadFault same none = absurd none
   rejected_told now counts WriteFault same none = absurd none

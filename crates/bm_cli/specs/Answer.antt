@@ -1,11 +1,13 @@
 -- The answers, their statuses and their lines.
 use Rattle.std.specs.Prelude.{ℕ, List, ◌++◌, codes, decimal}
+use Rattle.bm_base.specs.Size.{limit_of, name_of_size}
+use Rattle.bm_base.specs.declared.size.Size.{Size}
 use Rattle.bm_base.specs.declared.status.Status.{Status}
 use Rattle.bm_base.specs.declared.status.Status.TheVariants as status
 use Rattle.bm_cli.specs.declared.answer.Accepted.{Accepted}
 use Rattle.bm_cli.specs.declared.answer.Summary.{Summary}
 use Rattle.bm_cli.specs.declared.answer.Refusal.{Refusal}
-use Rattle.bm_cli.specs.declared.answer.Refusal.TheVariants.{NoViolation, NotFirstAtLast, Cut, Netlist, NetlistLimit, WaveformForm}
+use Rattle.bm_cli.specs.declared.answer.Refusal.TheVariants.{NoViolation, NotFirstAtLast, Cut, Netlist, Limit, WaveformForm}
 use Rattle.bm_cli.specs.declared.answer.Answer.{Answer}
 use Rattle.bm_cli.specs.declared.answer.Answer.TheVariants.{Minimised, Accepted as Judged, Refused}
 use Rattle.bm_cli.specs.declared.netlist.fault.NetlistFault.{NetlistFault}
@@ -16,7 +18,7 @@ refusal_status NoViolation = status.No
 refusal_status NotFirstAtLast = status.No
 refusal_status (Cut cycle) = status.No
 refusal_status (Netlist why) = status.Netlist
-refusal_status NetlistLimit = status.Limit
+refusal_status (Limit what) = status.Limit
 refusal_status WaveformForm = status.Waveform
 
 abbrev pub status_of : Answer → Status
@@ -43,12 +45,16 @@ fault_line (fault.TooDeep at) = codes "netlist refused: P3 at " ++ decimal at ++
 fault_line (fault.Syntax at) = codes "netlist refused: P4 at " ++ decimal at ++ codes "\n"
 fault_line fault.Form = codes "netlist refused: form\n"
 
+-- the size's name and its limit
+abbrev pub limit_line : Size → List ℕ
+limit_line what = codes "limit: " ++ name_of_size what ++ codes " " ++ decimal (limit_of what) ++ codes "\n"
+
 abbrev pub refusal_line : Refusal → List ℕ
 refusal_line NoViolation = codes "no violation\n"
 refusal_line NotFirstAtLast = codes "no: N1\n"
 refusal_line (Cut cycle) = codes "no: N2 cycle " ++ decimal cycle ++ codes "\n"
 refusal_line (Netlist why) = fault_line why
-refusal_line NetlistLimit = codes "limit: netlist 16777216\n"
+refusal_line (Limit what) = limit_line what
 refusal_line WaveformForm = codes "waveform refused: form\n"
 
 -- the line, with its newline

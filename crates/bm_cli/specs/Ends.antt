@@ -31,6 +31,10 @@ pub record CallCounts : Type 0 where
   pub writes : FaultCounts
   pub writes_now : FaultCounts
 
+abbrev pub counted : FaultCounts → FaultCounts → FaultCounts → FaultCounts → CallCounts
+counted reads reads_now writes writes_now =
+    record { reads = reads; reads_now = reads_now; writes = writes; writes_now = writes_now }
+
 -- It answers, and the shelf holds what the answer says.
 abbrev pub Gives : Command → Option Held → Option Held → Answer → Type 0
 Gives command held now answer = Tells (λ held now. Answers command held answer now) held now

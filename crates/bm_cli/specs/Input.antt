@@ -1,5 +1,7 @@
 -- What netlists and waveforms of the first form are, of bytes.
 use Rattle.std.specs.Prelude.{◌≡◌, ◌<◌, ◌≤◌, ℕ, List, Bool, Option, All, IfSome, length}
+use Rattle.bm_base.specs.Size.{limit_of}
+use Rattle.bm_base.specs.declared.size.Size.TheVariants as size
 use Rattle.trace_rows.specs.declared.labels.Labels.{Labels}
 use Rattle.vcd_writer.specs.Waveform.{vcd}
 use Rattle.vlog_parse.specs.Refusals.{IsInProfile}
@@ -25,7 +27,7 @@ pub record SpellsNetlist (names : TopNames) (bytes : List ℕ) (design : Design)
 
 -- The bytes are a netlist of the first form, and this is its design.
 pub record IsNetlist (names : TopNames) (bytes : List ℕ) (design : Design) : Type 0 where
-  pub short : length bytes ≤ 16777216
+  pub short : length bytes ≤ limit_of size.Netlist
   pub text : SpellsNetlist names bytes design
 
 -- the labels of a design's traces

@@ -1,5 +1,7 @@
 -- Why a netlist is refused.
 use Rattle.std.specs.Prelude.{◌≡◌, ◌≤◌, ℕ, List, length}
+use Rattle.bm_base.specs.Size.{limit_of}
+use Rattle.bm_base.specs.declared.size.Size.TheVariants as size
 use Rattle.vlog_lexer.specs.Faults.{FailsAt}
 use Rattle.vlog_lexer.specs.declared.fault.LexFault.TheVariants as lex
 use Rattle.vlog_parse.specs.Refusals.{IsCause}
@@ -32,7 +34,7 @@ IsReason names bytes fault.Form = (design : Design) × SpellsInProfile bytes des
 
 -- The bytes are refused as a netlist for this reason. They are not too long to be read.
 pub record IsNetlistFault (names : TopNames) (bytes : List ℕ) (why : NetlistFault) : Type 0 where
-  pub short : length bytes ≤ 16777216
+  pub short : length bytes ≤ limit_of size.Netlist
   pub reason : IsReason names bytes why
 
 -- the reason, without the place of tokens that spell no design

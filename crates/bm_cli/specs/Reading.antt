@@ -2,6 +2,8 @@
 use Rattle.std.specs.Prelude.{◌≡◌, ◌⊎◌, ◌<◌, ℕ, List, Bool, IfSome, Option, length}
 use Rattle.bm_base.specs.Counts.{FaultCounts, count_of, Rose, RisesOnlyAt, SameCounts}
 use Rattle.bm_base.specs.Held.{Held, bytes_under}
+use Rattle.bm_base.specs.Size.{limit_of}
+use Rattle.bm_base.specs.declared.size.Size.TheVariants as size
 use Rattle.trace_rows.specs.declared.labels.Labels.{Labels}
 use Rattle.vlog_lexer.specs.declared.fault.LexFault.{LexFault}
 use Rattle.vlog_lexer.specs.declared.fault.LexFault.TheVariants as lex
@@ -18,7 +20,7 @@ use Rattle.bm_cli.specs.Outside.{SomeRose}
 use Rattle.bm_cli.specs.Verdict.{RefusesFiles}
 use Rattle.bm_cli.specs.Words.{Inputs}
 use Rattle.bm_cli.specs.declared.answer.Refusal.{Refusal}
-use Rattle.bm_cli.specs.declared.answer.Refusal.TheVariants.{Netlist, NetlistLimit}
+use Rattle.bm_cli.specs.declared.answer.Refusal.TheVariants.{Netlist, Limit}
 use Rattle.bm_cli.specs.declared.answer.Stop.{Stop}
 use Rattle.bm_cli.specs.declared.answer.Stop.TheVariants.{Refused, ReadFault, WriteFault, Memory}
 use Rattle.bm_cli.specs.declared.form.FormFault.{FormFault}
@@ -70,7 +72,8 @@ StopsFor names bytes other = ⊥
 -- Why the reading of NETLIST stopped, where the shelf tells its bytes: its fault, its length, a fault whose count has risen, or want of memory.
 abbrev pub StopsAtNetlist : TopNames → Option Held → List ℕ → FaultCounts → FaultCounts → Stop → Type 0
 StopsAtNetlist names held name reads reads_now (Refused (Netlist why)) = IfSome held (λ held. IsNetlistFault names (bytes_under held name) why)
-StopsAtNetlist names held name reads reads_now (Refused NetlistLimit) = IfSome held (λ held. 16777216 < length (bytes_under held name))
+StopsAtNetlist names held name reads reads_now (Refused (Limit what)) =
+    IfSome held (λ held. (what ≡ size.Netlist) × (limit_of size.Netlist < length (bytes_under held name)))
 StopsAtNetlist names held name reads reads_now ReadFault = Rose (count_of reads name) (count_of reads_now name)
 StopsAtNetlist names held name reads reads_now Memory = Unit {0}
 StopsAtNetlist names held name reads reads_now other = ⊥

@@ -1,6 +1,8 @@
 -- What NETLIST and STIM or TRACE are, by the bytes that a shelf holds under their names.
 use Rattle.std.specs.Prelude.{◌≡◌, ◌<◌, ℕ, List, Bool, length}
 use Rattle.bm_base.specs.Held.{Held, bytes_under}
+use Rattle.bm_base.specs.Size.{limit_of}
+use Rattle.bm_base.specs.declared.size.Size.TheVariants as size
 use Rattle.vlog_tree.specs.declared.design.Design.{Design}
 use Rattle.vlog_tree.specs.Run.{IsFirstAtLast, Violates}
 use Rattle.bm_cli.specs.Acceptance.{HasLeastCut, IsAccepted}
@@ -12,7 +14,7 @@ use Rattle.bm_cli.specs.NetlistFaults.{IsNetlistFault}
 use Rattle.bm_cli.specs.Words.{Inputs}
 use Rattle.bm_cli.specs.declared.answer.Accepted.{Accepted}
 use Rattle.bm_cli.specs.declared.answer.Refusal.{Refusal}
-use Rattle.bm_cli.specs.declared.answer.Refusal.TheVariants.{Cut, Netlist, NetlistLimit, NoViolation, NotFirstAtLast, WaveformForm}
+use Rattle.bm_cli.specs.declared.answer.Refusal.TheVariants.{Cut, Limit, Netlist, NoViolation, NotFirstAtLast, WaveformForm}
 use Rattle.bm_cli.specs.declared.answer.Summary.{Summary}
 use Rattle.bm_cli.specs.declared.netlist.fault.NetlistFault.{NetlistFault}
 
@@ -28,7 +30,7 @@ HasNetlistFault inputs held why = IsNetlistFault inputs.names (bytes_under held 
 
 -- NETLIST is longer than one may be.
 abbrev pub HasLongNetlist : Inputs → Held → Type 0
-HasLongNetlist inputs held = 16777216 < length (bytes_under held inputs.netlist)
+HasLongNetlist inputs held = limit_of size.Netlist < length (bytes_under held inputs.netlist)
 
 -- NETLIST is of the first form, and the waveform is not.
 abbrev pub HasNoWaveform : Inputs → Held → Type 0
@@ -37,7 +39,7 @@ HasNoWaveform inputs held = (design : Design) × HasNetlist inputs held design
 
 -- Why the two files are refused. Each reason excludes those before it.
 abbrev pub RefusesFiles : Inputs → Held → Refusal → Type 0
-RefusesFiles inputs held NetlistLimit = HasLongNetlist inputs held
+RefusesFiles inputs held (Limit what) = (what ≡ size.Netlist) × HasLongNetlist inputs held
 RefusesFiles inputs held (Netlist why) = HasNetlistFault inputs held why
 RefusesFiles inputs held WaveformForm = HasNoWaveform inputs held
 RefusesFiles inputs held NoViolation = ⊥

@@ -1,9 +1,10 @@
 //! What a command answers, and the line that it prints.
 ghost use Rattle.std.specs.Prelude.{◌≡◌, IfOk};
 ghost use Rattle.std.specs.String.{string_bytes};
+ghost use Rattle.bm_cli.specs.Answer.{limit_line};
 
 use crate::netlist::fault::NetlistFault;
-use bm_base::{NoMemory, Status};
+use bm_base::{NoMemory, Size, Status};
 use std::alloc::{AllocError, AllocFailed, Global};
 use vlog_lexer::LexFault;
 use vlog_parse::ParseFault;
@@ -66,8 +67,8 @@ pub enum Refusal {
     Cut { cycle: usize },
     /// The netlist is refused.
     Netlist(NetlistFault),
-    /// The netlist is longer than one may be.
-    NetlistLimit,
+    /// A size passes its limit.
+    Limit(Size),
     /// The waveform is not of the first form.
     WaveformForm,
 }
@@ -81,7 +82,7 @@ impl Refusal {
         match self {
             Refusal::NoViolation | Refusal::NotFirstAtLast | Refusal::Cut { .. } => Status::No,
             Refusal::Netlist(_) => Status::Netlist,
-            Refusal::NetlistLimit => Status::Limit,
+            Refusal::Limit(_) => Status::Limit,
             Refusal::WaveformForm => Status::Waveform,
         }
     }
@@ -94,10 +95,17 @@ impl Refusal {
             Refusal::NotFirstAtLast => String::from_str(alloc, "no: N1\n"),
             Refusal::Cut { cycle } => format!(in alloc; "no: N2 cycle {cycle}\n"),
             Refusal::Netlist(fault) => fault.line(alloc),
-            Refusal::NetlistLimit => String::from_str(alloc, "limit: netlist 16777216\n"),
+            Refusal::Limit(what) => limit_line(alloc, *what),
             Refusal::WaveformForm => String::from_str(alloc, "waveform refused: form\n"),
         }
     }
+}
+
+fn limit_line(alloc: Global, what: Size) -> Result<String, AllocError>
+    ensures { IfOk result (λ line. string_bytes line ≡ limit_line what) }
+{
+    let limit = what.limit();
+    format!(in alloc; "limit: {what} {limit}\n")
 }
 
 /// What a command answers.

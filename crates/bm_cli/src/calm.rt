@@ -13,8 +13,8 @@ use crate::run;
 use bm_base::{CalmShelf, CalmSink, Status};
 use std::alloc::Global;
 
-/// `run`, where no fault can come from outside. So neither a read fault nor a write fault is answered, and where what the words
-/// ask for has an answer, it comes, but for want of memory.
+/// `run`, where no fault can come from outside. So neither a read fault nor a write fault is answered, and where what
+/// the words ask for has an answer, it comes, but for want of memory.
 pub fn run_calmly(
     alloc: Global,
     words: &[String],
@@ -26,7 +26,8 @@ pub fn run_calmly(
     ensures words { result ≡ Status.Words → AskNothing (texts words.now) }
     ensures words_refused { AskNothing (texts words.now) → (result ≡ Status.Words) ⊎ (result ≡ Status.Memory) }
     ensures keeps { (command : Command) → Asks (texts words.now) command → Keeps command
-        (outside (Some shelf.old) empty empty (Some out.old) 0) result (outside (Some shelf.new) empty empty (Some out.new) 0) }
+        (outside (Some shelf.old) empty empty (Some out.old) 0) result
+        (outside (Some shelf.new) empty empty (Some out.new) 0) }
     ensures comes { (command : Command) (answer : Answer) (whole : Held) → Asks (texts words.now) command
         → Answers command shelf.old answer whole → (result ≡ status_of answer) ⊎ (result ≡ Status.Memory) }
 {

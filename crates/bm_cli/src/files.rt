@@ -15,9 +15,11 @@ pub fn read_file<F: Shelf>(
     name: &str,
     limit: u64,
 ) -> Result<Option<Vec<u8>>, Fault>
-    ensures bytes { IfOk result (λ found. IfSome (F.held shelf.old) (λ held. IsWithin limit (bytes_under held name.now) found)) }
+    ensures bytes { IfOk result (λ found. IfSome (F.held shelf.old)
+        (λ held. IsWithin limit (bytes_under held name.now) found)) }
     ensures held { F.held shelf.new ≡ F.held shelf.old }
-    ensures cause { IsErrOf result Fault.Failed → Rose (count_of (F.reads shelf.old) name.now) (count_of (F.reads shelf.new) name.now) }
+    ensures cause { IsErrOf result Fault.Failed → Rose (count_of (F.reads shelf.old) name.now)
+        (count_of (F.reads shelf.new) name.now) }
     ensures reads { RisesOnlyAt name.now (F.reads shelf.old) (F.reads shelf.new) }
     ensures writes { SameCounts (F.writes shelf.old) (F.writes shelf.new) }
 {
@@ -33,10 +35,12 @@ pub fn read_file<F: Shelf>(
 
 // Reads the file's front into the buffer until that is full or the file ends, and says how many bytes it read.
 fn fill<F: Shelf>(shelf: &mut F, name: &str, buffer: &mut [u8]) -> Result<usize, Fault>
-    ensures bytes { IfOk result (λ count. IfSome (F.held shelf.old) (λ held. Fills (bytes_under held name.now) count buffer.new)) }
+    ensures bytes { IfOk result (λ count. IfSome (F.held shelf.old)
+        (λ held. Fills (bytes_under held name.now) count buffer.new)) }
     ensures within { IfOk result (λ count. count ≤ length buffer.new) }
     ensures held { F.held shelf.new ≡ F.held shelf.old }
-    ensures cause { IsErrOf result Fault.Failed → Rose (count_of (F.reads shelf.old) name.now) (count_of (F.reads shelf.new) name.now) }
+    ensures cause { IsErrOf result Fault.Failed → Rose (count_of (F.reads shelf.old) name.now)
+        (count_of (F.reads shelf.new) name.now) }
     ensures reads { RisesOnlyAt name.now (F.reads shelf.old) (F.reads shelf.new) }
     ensures writes { SameCounts (F.writes shelf.old) (F.writes shelf.new) }
 {
@@ -55,7 +59,8 @@ fn fill<F: Shelf>(shelf: &mut F, name: &str, buffer: &mut [u8]) -> Result<usize,
 pub fn write_file<F: Shelf>(shelf: &mut F, name: &str, text: &[u8]) -> Result<(), Fault>
     ensures ok { OnOk result (F.held shelf.new ≡ option_map (holding name.now text.now) (F.held shelf.old)) }
     ensures err { OnErr result (HoldsPrefix name.now text.now (F.held shelf.old) (F.held shelf.new)) }
-    ensures cause { IsErrOf result Fault.Failed → Rose (count_of (F.writes shelf.old) name.now) (count_of (F.writes shelf.new) name.now) }
+    ensures cause { IsErrOf result Fault.Failed → Rose (count_of (F.writes shelf.old) name.now)
+        (count_of (F.writes shelf.new) name.now) }
     ensures writes { RisesOnlyAt name.now (F.writes shelf.old) (F.writes shelf.new) }
     ensures reads { SameCounts (F.reads shelf.old) (F.reads shelf.new) }
 {

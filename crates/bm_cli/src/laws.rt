@@ -34,7 +34,8 @@ pub fn netlist_or_fault()
 pub fn bytes_are_one_trace(labels: &Labels, bytes: &[u8])
     requires scalars { AreScalars labels.now.ports }
     requires words { AreWords labels.now }
-    ensures { (rows others : List (List Bool)) → SpellsRows labels.now bytes.now rows → SpellsRows labels.now bytes.now others → rows ≡ others }
+    ensures { (rows others : List (List Bool)) → SpellsRows labels.now bytes.now rows
+        → SpellsRows labels.now bytes.now others → rows ≡ others }
 {}
 
 /// A netlist of the first form is loop-free: each bit has a value in every state under every row.

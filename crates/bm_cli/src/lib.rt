@@ -3,13 +3,12 @@
 
 mod answer;
 mod calm;
-mod check;
+mod commands;
 mod count;
 mod files;
 mod form;
 mod inputs;
 pub mod laws;
-mod minimise;
 mod netlist;
 mod top;
 mod waveform;

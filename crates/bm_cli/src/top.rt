@@ -1,21 +1,17 @@
 //! The top call.
-ghost use Rattle.std.specs.Prelude.{◌≡◌, IfErr, IfOk, IfSome};
+ghost use Rattle.std.specs.Prelude.{◌≡◌, IfSome};
 ghost use Rattle.bm_base.specs.Counts.{Rose};
 ghost use Rattle.bm_cli.specs.Answer.{line_of, status_of};
-ghost use Rattle.bm_cli.specs.Asked.{command_of};
-ghost use Rattle.bm_cli.specs.Commands.{reads_of, writes_of};
-ghost use Rattle.bm_cli.specs.Ends.{Ends};
 ghost use Rattle.bm_cli.specs.Headline.{IsDone, SaysYes};
 ghost use Rattle.bm_cli.specs.Keeps.{Keeps, RefusesWords};
-ghost use Rattle.bm_cli.specs.Outside.{OthersStay, outside};
+ghost use Rattle.bm_cli.specs.Outside.{outside};
 ghost use Rattle.bm_cli.specs.Prints.{Prints, PrintsEnd};
 ghost use Rattle.bm_cli.specs.Words.{AskNothing, Asks, Command, Inputs, Request, check, minimise, texts};
 
 use crate::answer::{Answer, Stop};
-use crate::check::check;
+use crate::commands::carry_out;
 use crate::laws::{check_has_one_status, minimise_has_one_status};
-use crate::minimise::minimise;
-use crate::words::{Asked, read_words};
+use crate::words::read_words;
 use bm_base::{Fault, Shelf, Sink, Status};
 use std::alloc::Global;
 
@@ -24,16 +20,18 @@ pub fn run<F: Shelf, S: Sink>(alloc: Global, words: &[String], shelf: &mut F, ou
     // Status 2 comes only where the words ask for nothing, and then nothing else is done.
     ensures words { result ≡ Status.Words → AskNothing (texts words.now) }
     ensures words_refused { AskNothing (texts words.now) → RefusesWords
-        (outside (F.held shelf.old) (F.reads shelf.old) (F.writes shelf.old) (S.taken out.old) (S.faults out.old)) result
+        (outside (F.held shelf.old) (F.reads shelf.old) (F.writes shelf.old) (S.taken out.old) (S.faults out.old))
+        result
         (outside (F.held shelf.new) (F.reads shelf.new) (F.writes shelf.new) (S.taken out.new) (S.faults out.new)) }
 
-    // What the words ask for is answered as its relation says, but for faults that the counts show and for want of memory.
+    // What the words ask for is answered as its relation says, but for faults that the counts show and want of memory.
     ensures keeps { (command : Command) → Asks (texts words.now) command → Keeps command
-        (outside (F.held shelf.old) (F.reads shelf.old) (F.writes shelf.old) (S.taken out.old) (S.faults out.old)) result
+        (outside (F.held shelf.old) (F.reads shelf.old) (F.writes shelf.old) (S.taken out.old) (S.faults out.old))
+        result
         (outside (F.held shelf.new) (F.reads shelf.new) (F.writes shelf.new) (S.taken out.new) (S.faults out.new)) }
 
-    // Where `minimise` answers 0, OUT holds the text of a trace that drives the netlist to a violation, first at its last
-    // cycle, and that no longer violates without any one of its cycles.
+    // Where `minimise` answers 0, OUT holds the text of a trace that drives the netlist to a violation, first at its
+    // last cycle, and that no longer violates without any one of its cycles.
     ensures minimised { (request : Request) → Asks (texts words.now) (minimise request) → result ≡ Status.Done →
         IfSome (F.held shelf.old) (λ held. IsDone request held
         (outside (F.held shelf.old) (F.reads shelf.old) (F.writes shelf.old) (S.taken out.old) (S.faults out.old))
@@ -50,32 +48,14 @@ pub fn run<F: Shelf, S: Sink>(alloc: Global, words: &[String], shelf: &mut F, ou
     let Some(asked) = read_words(words) else {
         return put(Status::Words, b"words refused\n", out);
     };
-    let outcome = obey(alloc, &asked, shelf);
+    let outcome = carry_out(alloc, &asked, shelf);
     finish(alloc, outcome, out)
-}
-
-// Does what is asked for.
-fn obey<F: Shelf>(alloc: Global, asked: &Asked, shelf: &mut F) -> Result<Answer, Stop>
-    ensures ends { Ends (command_of asked.now) (F.held shelf.old) (F.held shelf.new)
-        (record { reads = F.reads shelf.old; reads_now = F.reads shelf.new; writes = F.writes shelf.old; writes_now = F.writes shelf.new }) result }
-    ensures reads { OthersStay (reads_of (command_of asked.now)) (F.reads shelf.old) (F.reads shelf.new) }
-    ensures writes { OthersStay (writes_of (command_of asked.now)) (F.writes shelf.old) (F.writes shelf.new) }
-{
-    match asked {
-        Asked::Minimise(asked) => match minimise(alloc, asked, shelf) {
-            Ok(summary) => Ok(Answer::Minimised(summary)),
-            Err(stop) => Err(stop),
-        },
-        Asked::Check(asked) => match check(alloc, asked, shelf) {
-            Ok(accepted) => Ok(Answer::Accepted(accepted)),
-            Err(stop) => Err(stop),
-        },
-    }
 }
 
 // Prints the line of how a command ended, if it has one, and gives its status.
 fn finish<S: Sink>(alloc: Global, outcome: Result<Answer, Stop>, out: &mut S) -> Status
-    ensures { PrintsEnd outcome result (Rose (S.faults out.old) (S.faults out.new)) (S.taken out.old) (S.taken out.new) }
+    ensures { PrintsEnd outcome result (Rose (S.faults out.old) (S.faults out.new)) (S.taken out.old)
+        (S.taken out.new) }
 {
     match outcome {
         Ok(answer) => print(alloc, &answer, out),
@@ -88,7 +68,8 @@ fn finish<S: Sink>(alloc: Global, outcome: Result<Answer, Stop>, out: &mut S) ->
 
 // Prints the answer's line.
 fn print<S: Sink>(alloc: Global, answer: &Answer, out: &mut S) -> Status
-    ensures { Prints (status_of answer.now) (line_of answer.now) result (Rose (S.faults out.old) (S.faults out.new)) (S.taken out.old) (S.taken out.new) }
+    ensures { Prints (status_of answer.now) (line_of answer.now) result (Rose (S.faults out.old) (S.faults out.new))
+        (S.taken out.old) (S.taken out.new) }
 {
     match answer.line(alloc) {
         Ok(line) => put(answer.status(), line.as_bytes(), out),
@@ -98,7 +79,8 @@ fn print<S: Sink>(alloc: Global, answer: &Answer, out: &mut S) -> Status
 
 // Prints a line in one piece.
 fn put<S: Sink>(status: Status, line: &[u8], out: &mut S) -> Status
-    ensures { Prints status line.now result (Rose (S.faults out.old) (S.faults out.new)) (S.taken out.old) (S.taken out.new) }
+    ensures { Prints status line.now result (Rose (S.faults out.old) (S.faults out.new)) (S.taken out.old)
+        (S.taken out.new) }
 {
     match out.put(line) {
         Ok(()) => status,

@@ -1,5 +1,22 @@
 //! The first form of a waveform: the text that the writer makes of some rows, without checker bits or with any.
-ghost use Rattle.std.specs.Prelude.{◌≡◌, ◌<◌, ◌↔◌, Bool, false, IfOk, IfSome, IsErrOf, IsTrue, List, [], ◌∷◌, length, map, option_copied, replicate};
+ghost use Rattle.std.specs.Prelude.{
+  ◌≡◌,
+  ◌<◌,
+  ◌↔◌,
+  Bool,
+  false,
+  IfOk,
+  IfSome,
+  IsErrOf,
+  IsTrue,
+  List,
+  [],
+  ◌∷◌,
+  length,
+  map,
+  option_copied,
+  replicate,
+};
 ghost use Rattle.vcd_writer.specs.Waveform.{vcd};
 ghost use Rattle.bm_cli.specs.declared.form.FormFault;
 ghost use Rattle.bm_cli.specs.Input.{SpellsRows};
@@ -24,15 +41,18 @@ const CHECK: usize = 1;
 /// The number of the first port's variable; the others' follow.
 const FIRST_PORT: usize = 2;
 
-/// The rows of the waveform, whose checker bits, if it has any, are passed over. Each port is one bit wide and has no range.
+/// The rows of the waveform, whose checker bits, if it has any, are passed over. Each port is one bit wide and has no
+/// range.
 ///
 /// A newline in a name would cut a line in two, so that all rows are read is said where the names are words.
 pub fn read_waveform(alloc: Global, labels: &Labels, bytes: &[u8]) -> Result<Trace, FormFault>
     requires { AreScalars labels.now.ports }
     ensures width { IfOk result (λ trace. trace.width ≡ length labels.now.ports) }
     ensures text { IfOk result (λ trace. SpellsRows labels.now bytes.now trace.rows) }
-    ensures only { IfOk result (λ trace. AreWords labels.now → (rows : List (List Bool)) → SpellsRows labels.now bytes.now rows → trace.rows ≡ rows) }
-    ensures refused { IsErrOf result FormFault.Form → AreWords labels.now → (rows : List (List Bool)) → SpellsRows labels.now bytes.now rows → ⊥ }
+    ensures only { IfOk result (λ trace. AreWords labels.now → (rows : List (List Bool))
+        → SpellsRows labels.now bytes.now rows → trace.rows ≡ rows) }
+    ensures refused { IsErrOf result FormFault.Form → AreWords labels.now → (rows : List (List Bool))
+        → SpellsRows labels.now bytes.now rows → ⊥ }
 {
     let trace = rows(alloc, FIRST_PORT, labels.ports.len(), bytes)?;
     if is_text(alloc, &trace, labels, None, bytes)? {
@@ -58,7 +78,8 @@ fn is_text(
     requires rows { 0 < length trace.now.rows }
     requires width { trace.now.width ≡ length labels.now.ports }
     requires checks { IfSome (option_copied checks) (λ bits. length bits ≡ length trace.now.rows) }
-    ensures { IfOk result (λ same. IsTrue same ↔ (bytes.now ≡ vcd trace.now.rows labels.now (option_copied checks.entry))) }
+    ensures { IfOk result (λ same. IsTrue same ↔ (bytes.now ≡ vcd trace.now.rows labels.now
+        (option_copied checks.entry))) }
 {
     let text = vcd_text(alloc, trace, labels, checks)?;
     Ok(text.as_slice() == bytes)
@@ -69,7 +90,8 @@ fn is_text(
 fn rows(alloc: Global, first: usize, width: usize, bytes: &[u8]) -> Result<Trace, NoMemory>
     ensures some { IfOk result (λ trace. 0 < length trace.rows) }
     ensures width { IfOk result (λ trace. trace.width ≡ width) }
-    ensures rows { IfOk result (λ trace. trace.rows ≡ rows_of_lines first (replicate width false) (lines_of bytes.now)) }
+    ensures rows { IfOk result (λ trace. trace.rows ≡ rows_of_lines first (replicate width false)
+        (lines_of bytes.now)) }
 {
     let lines = lines(alloc, bytes)?;
     let mut row = Bits::zeros(alloc, width)?;

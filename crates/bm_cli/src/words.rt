@@ -1,7 +1,23 @@
 ghost use Rattle.std.specs.Prelude.{◌≡◌, ◌≢◌, ◌<◌, ◌↔◌, IsTrue, IfNone, IfSome, Some, length, slice_get};
 ghost use Rattle.bm_cli.specs.Asked.{command_of, given_inputs, names_of, request_of};
 ghost use Rattle.bm_cli.specs.TopNames.{TopNames};
-ghost use Rattle.bm_cli.specs.Words.{AskNothing, Asks, Command, HasFit, HasFitNames, HasFitOut, HasForm, Inputs as InputNames, IsFileName, IsName, Request, check, minimise, options, texts};
+ghost use Rattle.bm_cli.specs.Words.{
+  AskNothing,
+  Asks,
+  Command,
+  HasFit,
+  HasFitNames,
+  HasFitOut,
+  HasForm,
+  Inputs as InputNames,
+  IsFileName,
+  IsName,
+  Request,
+  check,
+  minimise,
+  options,
+  texts,
+};
 
 /// The names of the top module, its clock and its checker.
 #[derive(Clone, Copy)]

@@ -1,6 +1,15 @@
 //! A netlist of the first form by numbers, and its cycles.
 ghost use Rattle.std.specs.Prelude.{◌≡◌, ◌+◌, ◌^◌, ◌<◌, ◌≤◌, ◌++◌, length, take, drop};
-ghost use Rattle.bm_cli.specs.Circuit.{AreInOrder, IsInOrder, ReadsBelow, gate_value, settled, signal_count, stepped, with_gates};
+ghost use Rattle.bm_cli.specs.Circuit.{
+  AreInOrder,
+  IsInOrder,
+  ReadsBelow,
+  gate_value,
+  settled,
+  signal_count,
+  stepped,
+  with_gates,
+};
 
 use bm_base::Bits;
 

@@ -1,11 +1,73 @@
 //! The conditions of the first form on a tree.
-ghost use Rattle.std.specs.Prelude.{◌≡◌, ◌↔◌, ◌∷◌, IsTrue, IsErrOf, ◌&&◌, ◌+◌, ◌<◌, All, IfOk, Some, None, cond, [], ◌++◌, length, map, filter_map};
+ghost use Rattle.std.specs.Prelude.{
+  ◌≡◌,
+  ◌↔◌,
+  ◌∷◌,
+  IsTrue,
+  IsErrOf,
+  ◌&&◌,
+  ◌+◌,
+  ◌<◌,
+  All,
+  IfOk,
+  Some,
+  None,
+  cond,
+  [],
+  ◌++◌,
+  length,
+  map,
+  filter_map,
+};
 ghost use Rattle.std.specs.List.{list_all, cons_option};
 ghost use Rattle.std.specs.Str.{bytes_eq};
 ghost use Rattle.std.specs.Option.{option_copied};
 ghost use Rattle.bm_cli.specs.Asked.{names_of};
 ghost use Rattle.bm_cli.specs.Roles.{name_in, shown};
-ghost use Rattle.bm_cli.specs.FirstForm.{is_plain_item, is_plain_kind, are_gate_outs, are_gate_ins, is_whole_left, is_whole, is_move, declared_name, input_name, output_name, net_name, register_name, driven_name, written_name, taken_name, edge_name, first_left, left_name, whole_name, is_among, are_among, are_distinct, are_other, are_all, is_free, is_port, is_inner, begin_with_ports, without, is_known, reads_only, are_reads_known, are_same, are_declared, are_driven, are_written, are_taken, sources, are_free, IsTop, AreFirstForm, IsFirstForm};
+ghost use Rattle.bm_cli.specs.FirstForm.{
+  is_plain_item,
+  is_plain_kind,
+  are_gate_outs,
+  are_gate_ins,
+  is_whole_left,
+  is_whole,
+  is_move,
+  declared_name,
+  input_name,
+  output_name,
+  net_name,
+  register_name,
+  driven_name,
+  written_name,
+  taken_name,
+  edge_name,
+  first_left,
+  left_name,
+  whole_name,
+  is_among,
+  are_among,
+  are_distinct,
+  are_other,
+  are_all,
+  is_free,
+  is_port,
+  is_inner,
+  begin_with_ports,
+  without,
+  is_known,
+  reads_only,
+  are_reads_known,
+  are_same,
+  are_declared,
+  are_driven,
+  are_written,
+  are_taken,
+  sources,
+  are_free,
+  IsTop,
+  AreFirstForm,
+  IsFirstForm,
+};
 ghost use Rattle.bm_cli.specs.Circuit.{AreInOrder, IsInOrder, ReadsBelow};
 ghost use Rattle.bm_cli.specs.Waveform.{AreScalars};
 ghost use Rattle.bm_cli.specs.declared.form.FormFault.TheVariants.{Form};
@@ -141,7 +203,8 @@ pub fn gather<'d>(alloc: Global, items: &'d [Item], role: Role) -> Result<Vec<&'
 }
 
 pub fn push_some<'d>(names: &mut Vec<&'d [u8]>, name: Option<&'d [u8]>) -> Result<(), AllocError>
-    ensures { IfOk result (λ _. map (λ text. text.now) names.new.items ≡ map (λ text. text.now) names.old.items ++ cons_option (shown name.entry) []) }
+    ensures { IfOk result (λ _. map (λ text. text.now) names.new.items ≡ map (λ text. text.now) names.old.items ++
+        cons_option (shown name.entry) []) }
 {
     if let Some(name) = name {
         names.push(name)?;
@@ -354,7 +417,8 @@ pub fn others<'d>(
     names: &[&'d [u8]],
     name: &[u8],
 ) -> Result<Vec<&'d [u8]>, AllocError>
-    ensures { IfOk result (λ found. map (λ text. text.now) found.items ≡ without name.now (map (λ text. text.now) names.now)) }
+    ensures { IfOk result (λ found. map (λ text. text.now) found.items ≡ without name.now
+        (map (λ text. text.now) names.now)) }
 {
     let mut found = Vec::new(alloc);
     for other in names {
@@ -542,7 +606,10 @@ fn are_ports(
     clock: &[u8],
     check: &[u8],
 ) -> bool
-    ensures { result ≡ (are_free (map (λ text. text.now) declared.now) && (are_distinct (map (λ text. text.now) declared.now) && (is_among (map (λ text. text.now) inputs.now) clock.now && is_among (map (λ text. text.now) outputs.now) check.now))) }
+    ensures { result ≡ (are_free (map (λ text. text.now) declared.now) &&
+        (are_distinct (map (λ text. text.now) declared.now) &&
+        (is_among (map (λ text. text.now) inputs.now) clock.now && is_among (map (λ text. text.now) outputs.now)
+        check.now))) }
 {
     are_free(declared) && differ(declared) && has(inputs, clock) && has(outputs, check)
 }
@@ -583,7 +650,9 @@ fn takes_well(alloc: Global, items: &[Item], clock: &[u8]) -> Result<bool, Alloc
 }
 
 fn are_moves(taken: &[&[u8]], declared: &[&[u8]], edges: &[&[u8]], clock: &[u8]) -> bool
-    ensures { result ≡ (are_among (map (λ text. text.now) taken.now) (map (λ text. text.now) declared.now) && (are_other clock.now (map (λ text. text.now) taken.now) && are_all clock.now (map (λ text. text.now) edges.now))) }
+    ensures { result ≡ (are_among (map (λ text. text.now) taken.now) (map (λ text. text.now) declared.now) &&
+        (are_other clock.now (map (λ text. text.now) taken.now) && are_all clock.now
+        (map (λ text. text.now) edges.now))) }
 {
     has_all(taken, declared) && lacks(taken, clock) && are_equal(edges, clock)
 }
@@ -593,7 +662,8 @@ pub fn joined<'d>(
     first: &[&'d [u8]],
     second: &[&'d [u8]],
 ) -> Result<Vec<&'d [u8]>, AllocError>
-    ensures { IfOk result (λ both. map (λ text. text.now) both.items ≡ map (λ text. text.now) first.now ++ map (λ text. text.now) second.now) }
+    ensures { IfOk result (λ both. map (λ text. text.now) both.items ≡ map (λ text. text.now) first.now ++ map
+        (λ text. text.now) second.now) }
 {
     let mut both = Vec::from_slice(alloc, first)?;
     both.extend_from_slice(second)?;

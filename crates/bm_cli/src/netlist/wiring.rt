@@ -1,8 +1,40 @@
 //! The circuit of a tree that meets the conditions of the first form.
-ghost use Rattle.std.specs.Prelude.{◌≡◌, ◌+◌, ◌<◌, ◌++◌, [], ◌∷◌, All, IfOk, IsErrOf, IsTrue, Some, filter, length, map, slice_get};
+ghost use Rattle.std.specs.Prelude.{
+  ◌≡◌,
+  ◌+◌,
+  ◌<◌,
+  ◌++◌,
+  [],
+  ◌∷◌,
+  All,
+  IfOk,
+  IsErrOf,
+  IsTrue,
+  Some,
+  filter,
+  length,
+  map,
+  slice_get,
+};
 ghost use Rattle.std.specs.List.{cons_option, list_all};
 ghost use Rattle.bm_cli.specs.Asked.{names_of};
-ghost use Rattle.bm_cli.specs.FirstForm.{AreFirstForm, IsFirstForm, are_among, are_gate_ins, are_reads_known, driven, is_among, is_known, is_plain_item, inputs, reads_only, taken, whole_name, without, written};
+ghost use Rattle.bm_cli.specs.FirstForm.{
+  AreFirstForm,
+  IsFirstForm,
+  are_among,
+  are_gate_ins,
+  are_reads_known,
+  driven,
+  is_among,
+  is_known,
+  is_plain_item,
+  inputs,
+  reads_only,
+  taken,
+  whole_name,
+  without,
+  written,
+};
 ghost use Rattle.bm_cli.specs.Circuit.{AreInOrder, IsInOrder};
 ghost use Rattle.bm_cli.specs.Labels.{labels_of, labels_with};
 ghost use Rattle.bm_cli.specs.Roles.{texts};

@@ -6,7 +6,7 @@ use Rattle.bm_cli.specs.Counted.{base_row}
 use Rattle.bm_cli.specs.Simulation.{checks, zeros}
 use Rattle.bm_cli.proofs.CutLemmas.{bits_of_end}
 use Rattle.bm_cli.proofs.Scalars.{row_width-scalars}
-use Rattle.bm_cli.proofs.minimise.reduce.Goals as goal
+use Rattle.bm_cli.proofs.commands.minimise.reduce.Goals as goal
 
 -- what is left of the rows that were kept
 kept_by : (made kept : Rows) (rows : List (List Bool)) → kept.rows ≡ rows → (made ≡ kept) ⊎ (length made.rows < length kept.rows)

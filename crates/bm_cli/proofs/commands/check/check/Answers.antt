@@ -3,7 +3,7 @@ use Rattle.bm_cli.specs.Ends.{CallCounts, Stops}
 use Rattle.bm_cli.specs.Words.{Inputs, check}
 use Rattle.bm_cli.proofs.ReadingLemmas.{if_passed_on}
 use Rattle.bm_cli.proofs.ToldLemmas.{check_stopped, judged_ill, judged_well}
-use Rattle.bm_cli.proofs.check.check.Goals as goal
+use Rattle.bm_cli.proofs.commands.check.check.Goals as goal
 
 pub returns-in_err-circuit-clause-stops : goal.returns-in_err-circuit-clause-stops
 returns-in_err-circuit-clause-stops g c =

@@ -5,7 +5,7 @@ ghost use Rattle.bm_cli.specs.Circuit.{IsInOrder};
 ghost use Rattle.bm_cli.specs.Deletion.{EndsBad};
 ghost use Rattle.bm_cli.specs.Judgement.{IsJudged};
 ghost use Rattle.bm_cli.specs.Commands.{reads_of, writes_of};
-ghost use Rattle.bm_cli.specs.Ends.{Gives, Stops};
+ghost use Rattle.bm_cli.specs.Ends.{Gives, Stops, counted};
 ghost use Rattle.bm_cli.specs.Outside.{OthersStay};
 ghost use Rattle.bm_cli.specs.Words.{check};
 ghost use Rattle.bm_cli.specs.declared.answer.Answer.TheVariants.{Accepted as Judged};
@@ -23,9 +23,10 @@ use trace_rows::{Labels, Trace};
 
 /// Reads the netlist and the trace, and says whether the trace violates first at its last cycle with no cycle to spare.
 pub fn check<F: Shelf>(alloc: Global, asked: &Inputs, shelf: &mut F) -> Result<Accepted, Stop>
-    ensures answers { IfOk result (λ numbers. Gives (check (given_inputs asked.now)) (F.held shelf.old) (F.held shelf.new) (Judged numbers)) }
+    ensures answers { IfOk result (λ numbers. Gives (check (given_inputs asked.now)) (F.held shelf.old)
+        (F.held shelf.new) (Judged numbers)) }
     ensures stops { IfErr result (Stops (check (given_inputs asked.now)) (F.held shelf.old) (F.held shelf.new)
-        (record { reads = F.reads shelf.old; reads_now = F.reads shelf.new; writes = F.writes shelf.old; writes_now = F.writes shelf.new })) }
+        (counted (F.reads shelf.old) (F.reads shelf.new) (F.writes shelf.old) (F.writes shelf.new))) }
     ensures reads { OthersStay (reads_of (check (given_inputs asked.now))) (F.reads shelf.old) (F.reads shelf.new) }
     ensures writes { OthersStay (writes_of (check (given_inputs asked.now))) (F.writes shelf.old) (F.writes shelf.new) }
 {

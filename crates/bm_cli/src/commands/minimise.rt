@@ -4,7 +4,7 @@ ghost use Rattle.bm_cli.specs.Asked.{request_of};
 ghost use Rattle.bm_cli.specs.Circuit.{IsInOrder};
 ghost use Rattle.bm_cli.specs.Minimised.{IsReduced};
 ghost use Rattle.bm_cli.specs.Commands.{reads_of, writes_of};
-ghost use Rattle.bm_cli.specs.Ends.{Gives, Stops};
+ghost use Rattle.bm_cli.specs.Ends.{Gives, Stops, counted};
 ghost use Rattle.bm_cli.specs.Outside.{OthersStay};
 ghost use Rattle.bm_cli.specs.Words.{minimise};
 ghost use Rattle.bm_cli.specs.declared.answer.Answer.TheVariants.{Minimised};
@@ -27,11 +27,13 @@ use vcd_writer::vcd_text;
 /// Reads the netlist and the stimulus, and writes the stimulus cut off after its first violating cycle, without the
 /// cycles that can go.
 pub fn minimise<F: Shelf>(alloc: Global, asked: &Minimise, shelf: &mut F) -> Result<Summary, Stop>
-    ensures answers { IfOk result (λ summary. Gives (minimise (request_of asked.now)) (F.held shelf.old) (F.held shelf.new) (Minimised summary)) }
+    ensures answers { IfOk result (λ summary. Gives (minimise (request_of asked.now)) (F.held shelf.old)
+        (F.held shelf.new) (Minimised summary)) }
     ensures stops { IfErr result (Stops (minimise (request_of asked.now)) (F.held shelf.old) (F.held shelf.new)
-        (record { reads = F.reads shelf.old; reads_now = F.reads shelf.new; writes = F.writes shelf.old; writes_now = F.writes shelf.new })) }
+        (counted (F.reads shelf.old) (F.reads shelf.new) (F.writes shelf.old) (F.writes shelf.new))) }
     ensures reads { OthersStay (reads_of (minimise (request_of asked.now))) (F.reads shelf.old) (F.reads shelf.new) }
-    ensures writes { OthersStay (writes_of (minimise (request_of asked.now))) (F.writes shelf.old) (F.writes shelf.new) }
+    ensures writes { OthersStay (writes_of (minimise (request_of asked.now))) (F.writes shelf.old)
+        (F.writes shelf.new) }
 {
     let (circuit, labels, trace) = read_inputs(alloc, &asked.inputs, shelf)?;
     let (text, summary) = reduce(alloc, &circuit, &labels, trace)?;
@@ -56,7 +58,8 @@ fn reduce(
     requires inputs { length labels.now.ports ≡ circuit.now.inputs }
     requires width { trace.width ≡ circuit.now.inputs }
     ensures reduced { IfOk result (λ made. IsReduced circuit.now labels.now trace.rows made.0.items made.1) }
-    ensures none { result ≡ Err (Stop.Refused Refusal.NoViolation) → first_bad circuit.now (zeros circuit.now) trace.rows ≡ None }
+    ensures none { result ≡ Err (Stop.Refused Refusal.NoViolation)
+        → first_bad circuit.now (zeros circuit.now) trace.rows ≡ None }
     ensures stops { IfErr result (λ stop. (stop ≡ Stop.Refused Refusal.NoViolation) ⊎ (stop ≡ Stop.Memory)) }
 {
     let Some(cycle) = first_violation(alloc, circuit, &trace)? else {

@@ -8,7 +8,7 @@ use Rattle.bm_cli.specs.Verdict.{HasMinimised}
 use Rattle.bm_cli.specs.Words.{Request, minimise}
 use Rattle.bm_cli.proofs.ReadingLemmas.{if_passed_on}
 use Rattle.bm_cli.proofs.ToldLemmas.{made_told, minimise_stopped, partly_written, reducing_stopped, rose_later, written}
-use Rattle.bm_cli.proofs.minimise.minimise.Goals as goal
+use Rattle.bm_cli.proofs.commands.minimise.minimise.Goals as goal
 
 pub returns-in_err-circuit-clause-stops : goal.returns-in_err-circuit-clause-stops
 returns-in_err-circuit-clause-stops g c =
