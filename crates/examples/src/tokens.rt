@@ -1,7 +1,8 @@
 //! The tokens of a text.
 use crate::shown::put_shown;
 use std::alloc::{AllocError, Global};
-use vlog_lexer::{Token, TokenKind, Tokens, lex};
+use vlog_lexer::{Tokens, lex};
+use vlog_tokens::{Token, TokenKind};
 
 /// The kind, the place and the text of each token, or why there is none.
 pub fn said_of_tokens(alloc: Global, source: &[u8]) -> Result<String, AllocError> {
