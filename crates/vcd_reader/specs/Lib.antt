@@ -1,0 +1,14 @@
+pub mod Body
+pub mod Changes
+pub mod Decimals
+pub mod Examples
+pub mod Faults
+pub mod Header
+pub mod Matching
+pub mod Rows
+pub mod Scopes
+pub mod Sections
+pub mod Tokens
+pub mod Values
+pub mod Variables
+pub mod Waveform
