@@ -26,9 +26,11 @@ digit_refused most value digit digits h = by (is_ascii_digit digit) (nat_le (10 
   where
     next : ℕ
     next = 10 * value + (digit - 48)
+
     past : (t : Bool) (x : ℕ) → (if t && false then Some x else None) ≡ None
     past true x = refl
     past false x = refl
+
     by : (b c : Bool) → nat_le (10 * value + (digit - 48)) most ≡ c → None ≡ (if b && c then Some (10 * value + (digit - 48)) else None)
         → (if b && list_all is_ascii_digit digits && nat_le (value_after (10 * value + (digit - 48)) digits) most then Some (value_after (10 * value + (digit - 48)) digits) else None) ≡ None
     by false c e h = refl

@@ -32,14 +32,19 @@ form_fault earlier path first inside =
     else (if is_word (codes "$var") first then declaration_fault earlier first.at (declared_by path inside)
     else None))
 
--- the fault of a group, behind these groups: no section begins there, it has no end, or it is whole and has a fault
-abbrev pub group_fault : List (List Tok) → List Tok → Option VcdFault
-group_fault before [] = None
-group_fault before (first ∷ rest) =
+-- the fault of a group, behind these variables, in this scope: no section begins there, it has no end, or it is whole and has
+-- a fault
+abbrev pub fault_within : List Variable → Path → List Tok → Option VcdFault
+fault_within earlier path [] = None
+fault_within earlier path (first ∷ rest) =
     if is_end first then Some (Token first.at)
     else (if not (begins_section first.text) then Some (Token first.at)
     else (if not (is_closed rest) then Some (Truncated first.at)
-    else form_fault (variables before) (scope_of before) first (inner rest)))
+    else form_fault earlier path first (inner rest)))
+
+-- the fault of a group, behind these groups
+abbrev pub group_fault : List (List Tok) → List Tok → Option VcdFault
+group_fault before group = fault_within (variables before) (scope_of before) group
 
 -- the first fault of the header's sections, and that the file of this length ends before the header does
 abbrev pub header_fault : ℕ → List Tok → Option VcdFault

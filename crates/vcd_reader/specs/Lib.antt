@@ -1,6 +1,7 @@
 pub mod Body
 pub mod Changes
 pub mod Decimals
+pub mod Declares
 pub mod Examples
 pub mod Faults
 pub mod Header
@@ -8,6 +9,7 @@ pub mod Matching
 pub mod Rows
 pub mod Scopes
 pub mod Sections
+pub mod Sizes
 pub mod Tokens
 pub mod Values
 pub mod Variables

@@ -8,7 +8,7 @@ use Rattle.bm_base.specs.declared.range.Range.{Range}
 use Rattle.vcd_reader.specs.declared.select.Select.{Select}
 use Rattle.vcd_reader.specs.declared.select.Select.TheVariants.{Whole, Part, Other}
 use Rattle.vcd_reader.specs.Decimals.{small_number}
-use Rattle.vcd_reader.specs.Scopes.{Path, scope_after}
+use Rattle.vcd_reader.specs.Scopes.{Path, scope_after, without_backslash}
 use Rattle.vcd_reader.specs.Sections.{inner, is_word}
 use Rattle.vcd_reader.specs.Tokens.{Tok}
 
@@ -70,15 +70,10 @@ named_alone (byte ∷ bytes) =
     if byte == 92 then (bytes, Whole)
     else parted (byte ∷ bytes) (select_of (drop (select_at (byte ∷ bytes)) (byte ∷ bytes)))
 
--- the name of a token, where further tokens say the select
-abbrev pub named : List ℕ → List ℕ
-named [] = []
-named (byte ∷ bytes) = if byte == 92 then bytes else byte ∷ bytes
-
 -- the name and the select of a name's token and of the texts of further tokens
 abbrev pub name_and_select : List ℕ → List Tok → List ℕ × Select
 name_and_select name [] = named_alone name
-name_and_select name (token ∷ tokens) = (named name, select_by (select_of (flat_map (λ (further : Tok). further.text) (token ∷ tokens))))
+name_and_select name (token ∷ tokens) = (without_backslash name, select_by (select_of (flat_map (λ (further : Tok). further.text) (token ∷ tokens))))
 
 -- ---- declarations
 

@@ -2,11 +2,17 @@
 #![tactic(auto)]
 
 mod decimal;
+mod declaration;
+mod declarations;
 mod fault;
 mod form;
 pub mod laws;
+mod scope;
+mod section;
 mod select;
+mod sizes;
 mod token;
+mod variables;
 
 pub use fault::VcdFault;
 pub use form::Form;

@@ -1,0 +1,113 @@
+ghost use Rattle.std.specs.Prelude.{◌≡◌, ◌⊎◌, ◌∷◌, ◌++◌, ◌==◌, [], None, Some, IfErr, OnOk, length, map};
+ghost use Rattle.vcd_reader.specs.Header.{clashes, declaration_fault};
+ghost use Rattle.vcd_reader.specs.Scopes.{parent};
+ghost use Rattle.vcd_reader.specs.Tokens.{tok_of};
+ghost use Rattle.vcd_reader.specs.Variables.{declared_by, one_or_none};
+ghost use Rattle.vcd_reader.specs.declared.fault.VcdFault.TheVariants.{Memory};
+
+use crate::declaration::declared_by;
+use crate::fault::VcdFault;
+use crate::scope::Scope;
+use crate::token::Token;
+use crate::variables::Variables;
+use bm_base::NoMemory;
+use std::alloc::Global;
+use std::marker::Model;
+
+/// What a header declares.
+#[derive(Drop)]
+pub(crate) struct Declarations<'a> {
+    // the number of the innermost scope that is open
+    inmost: Option<usize>,
+    // each scope as often as it was opened
+    scopes: Vec<Scope<'a>>,
+    variables: Variables<'a>,
+}
+
+impl<'a> Model for Declarations<'a> {
+    ghost use Rattle.vcd_reader.specs.Declares.{AreKept, Declared, declared_as};
+
+    ghost Value = { Declared };
+
+    ghost view = { λ it. declared_as it.scopes.items it.inmost it.variables };
+
+    ghost invariant = { λ it. AreKept it.scopes.items it.inmost it.variables };
+}
+
+impl<'a> Declarations<'a> {
+    ghost use Rattle.vcd_reader.specs.Declares.{declared_by_groups};
+
+    /// Nothing is declared yet.
+    pub(crate) fn new(alloc: Global) -> Declarations<'a>
+        ensures { result ≡ declared_by_groups [] }
+    {
+        Declarations {
+            inmost: None,
+            scopes: Vec::new(alloc),
+            variables: Variables::new(alloc),
+        }
+    }
+
+    /// Whether no scope is open.
+    pub(crate) fn is_top(&self) -> bool
+        ensures { result ≡ (length self.now.path == 0) }
+    {
+        match self.inmost {
+            Some(_) => false,
+            None => true,
+        }
+    }
+
+    /// Opens a scope within the open one.
+    pub(crate) fn open(&mut self, name: &'a [u8]) -> Result<(), NoMemory>
+        ensures { OnOk result (self.new ≡ record self.old { path = self.old.path ++ name.now ∷ []; scopes = self.old.scopes ++ (self.old.path ++ name.now ∷ []) ∷ [] }) }
+    {
+        let number = self.scopes.len();
+        self.scopes.push(Scope {
+            parent: self.inmost,
+            name,
+        })?;
+        self.inmost = Some(number);
+        Ok(())
+    }
+
+    /// Closes the open scope.
+    pub(crate) fn close(&mut self)
+        ensures { self.new ≡ record self.old { path = parent self.old.path } }
+    {
+        if let Some(number) = self.inmost {
+            self.inmost = self.scopes[number].parent;
+        }
+    }
+
+    /// Declares what a `$var` at this place with these tokens declares in the open scope.
+    pub(crate) fn declare(
+        &mut self,
+        alloc: Global,
+        at: u64,
+        tokens: &[Token<'a>],
+    ) -> Result<(), VcdFault>
+        ensures fits { OnOk result (declaration_fault self.old.variables at (declared_by self.old.path (map tok_of tokens.now)) ≡ None) }
+        ensures declared { OnOk result (self.new ≡ record self.old { variables = self.old.variables ++ one_or_none (declared_by self.old.path (map tok_of tokens.now)) }) }
+        ensures fault { IfErr result (λ fault. (declaration_fault self.old.variables at (declared_by self.old.path (map tok_of tokens.now)) ≡ Some fault) ⊎ (fault ≡ Memory)) }
+    {
+        let Some(declaration) = declared_by(alloc, self.inmost, tokens)? else {
+            return Err(VcdFault::Token { at });
+        };
+        if clashes(self.variables.size_of(declaration.code), declaration.size) {
+            return Err(VcdFault::BadCode { at });
+        }
+        self.variables.add(declaration)?;
+        Ok(())
+    }
+}
+
+// Whether the code was declared with another size.
+fn clashes(known: Option<u32>, size: u32) -> bool
+    ensures { result ≡ clashes known size }
+{
+    match known {
+        Some(other) => other != size,
+        None => false,
+    }
+}
