@@ -5,10 +5,10 @@ use Rattle.std.specs.Option.{option_map}
 use Rattle.std.specs.Str.{bytes_eq}
 use Rattle.vcd_reader.specs.declared.declaration.Declaration.{Declaration}
 use Rattle.vcd_reader.specs.declared.scope.Scope.{Scope}
-use Rattle.vcd_reader.specs.Scopes.{Path, scope_after, scope_of, scopes}
-use Rattle.vcd_reader.specs.Sections.{begins_with}
+use Rattle.vcd_reader.specs.Scopes.{Path, scope_after, scope_by, scope_of, scopes}
+use Rattle.vcd_reader.specs.Sections.{begins_with, is_word}
 use Rattle.vcd_reader.specs.Tokens.{Tok}
-use Rattle.vcd_reader.specs.Variables.{Variable, declared, one_or_none, variables}
+use Rattle.vcd_reader.specs.Variables.{Variable, declared, one_or_none, variable_by, variables}
 
 -- the scope that is open, the scopes that were opened, and the variables
 pub record Declared : Type 0 where
@@ -30,6 +30,14 @@ declared_behind before group = record {
   path = scope_after before.path group;
   scopes = before.scopes ++ opened_by before.path group;
   variables = before.variables ++ one_or_none (declared before.path group);
+}
+
+-- with one more section, of this first token and these up to its `$end`
+abbrev pub declared_with : Declared → Tok → List Tok → Declared
+declared_with before first inside = record {
+  path = scope_by before.path first inside;
+  scopes = before.scopes ++ (if is_word (codes "$scope") first then scope_by before.path first inside ∷ [] else []);
+  variables = before.variables ++ one_or_none (variable_by before.path first inside);
 }
 
 -- ---- scopes by numbers

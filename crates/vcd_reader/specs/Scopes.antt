@@ -31,13 +31,17 @@ scope_within path other = path
 abbrev pub parent : Path → Path
 parent path = take (length path - 1) path
 
--- the scope behind a group, which stands in this one
-abbrev pub scope_after : Path → List Tok → Path
-scope_after path [] = path
-scope_after path (first ∷ rest) =
-    if is_word (codes "$scope") first then scope_within path (inner rest)
+-- the scope behind a section with this first token and these up to its `$end`, which stands in this one
+abbrev pub scope_by : Path → Tok → List Tok → Path
+scope_by path first inside =
+    if is_word (codes "$scope") first then scope_within path inside
     else (if is_word (codes "$upscope") first then parent path
     else path)
+
+-- the scope behind a group
+abbrev pub scope_after : Path → List Tok → Path
+scope_after path [] = path
+scope_after path (first ∷ rest) = scope_by path first (inner rest)
 
 -- the scope behind all these groups
 abbrev pub scope_of : List (List Tok) → Path

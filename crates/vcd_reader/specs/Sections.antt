@@ -1,6 +1,6 @@
 -- The header and the body: which tokens are of which.
 use Rattle.std.specs.Prelude.{ℕ, ◌+◌, Bool, false, not, List, [], ◌∷◌, codes, drop, take, if◌then◌else◌}
-use Rattle.std.specs.List.{before_first, flat_map, list_any, onto_first, prefix_len}
+use Rattle.std.specs.List.{before_first, flat_map, list_any, onto_first, position_or_len, prefix_len}
 use Rattle.std.specs.Str.{bytes_eq}
 use Rattle.vcd_reader.specs.Tokens.{Tok}
 
@@ -48,3 +48,7 @@ is_closed rest = list_any is_end rest
 -- the tokens between the first and the `$end`
 abbrev pub inner : List Tok → List Tok
 inner rest = before_first is_end rest
+
+-- the later tokens of a group: those up to and with the next `$end`, or all where there is none
+abbrev pub group_rest : List Tok → List Tok
+group_rest tokens = take (position_or_len is_end tokens + 1) tokens

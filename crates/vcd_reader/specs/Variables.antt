@@ -90,10 +90,14 @@ declared_by path (kind ∷ size ∷ code ∷ name ∷ further) =
     if is_code code.text then option_map (variable_of path code (name_and_select name.text further)) (small_number size.text) else None
 declared_by path other = None
 
--- the variable of a group, in this scope
+-- the variable of a section with this first token and these up to its `$end`, in this scope
+abbrev pub variable_by : Path → Tok → List Tok → Option Variable
+variable_by path first inside = if is_word (codes "$var") first then declared_by path inside else None
+
+-- the variable of a group
 abbrev pub declared : Path → List Tok → Option Variable
 declared path [] = None
-declared path (first ∷ rest) = if is_word (codes "$var") first then declared_by path (inner rest) else None
+declared path (first ∷ rest) = variable_by path first (inner rest)
 
 abbrev pub one_or_none : Option Variable → List Variable
 one_or_none None = []
