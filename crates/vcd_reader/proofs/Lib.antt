@@ -1,5 +1,8 @@
 pub mod DecimalLemmas
 pub mod DeclareLemmas
+pub mod GroupLemmas
+pub mod HeaderLemmas
+pub mod HeaderSteps
 pub mod ListLemmas
 pub mod SectionLemmas
 pub mod SelectLemmas

@@ -53,8 +53,8 @@ fn take_scope<'a>(
 ) -> Result<(), VcdFault>
     ensures faultless { OnOk result (fault_if (not (length (map tok_of inside.now) == 2)) (Form at) ≡ None) }
     ensures opened { OnOk result (declarations.new ≡ record declarations.old {
-        path = scope_within declarations.old.path (map tok_of inside.now);
-        scopes = declarations.old.scopes ++ scope_within declarations.old.path (map tok_of inside.now) ∷ []
+      path = scope_within declarations.old.path (map tok_of inside.now);
+      scopes = declarations.old.scopes ++ scope_within declarations.old.path (map tok_of inside.now) ∷ [];
     }) }
     ensures fault { IfErr result (λ fault. (fault_if (not (length (map tok_of inside.now) == 2)) (Form at) ≡ Some fault) ⊎ (fault ≡ Memory)) }
 {
@@ -65,11 +65,7 @@ fn take_scope<'a>(
     Ok(())
 }
 
-fn take_upscope(
-    declarations: &mut Declarations,
-    at: u64,
-    inside: &[Token],
-) -> Result<(), VcdFault>
+fn take_upscope(declarations: &mut Declarations, at: u64, inside: &[Token]) -> Result<(), VcdFault>
     ensures faultless { OnOk result (option_or (fault_if (not (length (map tok_of inside.now) == 0)) (Form at)) (fault_if (length declarations.old.path == 0) (Form at)) ≡ None) }
     ensures closed { OnOk result (declarations.new ≡ record declarations.old { path = parent declarations.old.path }) }
     ensures fault { IfErr result (λ fault. (option_or (fault_if (not (length (map tok_of inside.now) == 0)) (Form at)) (fault_if (length declarations.old.path == 0) (Form at)) ≡ Some fault)) }

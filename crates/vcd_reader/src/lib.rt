@@ -7,6 +7,7 @@ mod declaration;
 mod declarations;
 mod fault;
 mod form;
+mod header;
 pub mod laws;
 mod scope;
 mod section;
