@@ -183,3 +183,8 @@ declared_fault scopes inmost declarations now declaration at tokens seen read =
     ap (λ (now : Declared). declaration_fault now.variables at (declared_by now.path tokens)) (sym seen)
     ∙ ap (declaration_fault (map (declares (paths_of scopes)) declarations) at) (sym (read (paths_of scopes)))
     ∙ ap (λ known. fault_if (clashes known declaration.size) (BadCode at)) (size_seen (paths_of scopes) declarations declaration.code.now)
+
+-- There are as many scopes as are kept.
+pub seen_count : (scopes : List Scope) (inmost : Option ℕ) (declarations : List Declaration) (now : Declared) → declared_as scopes inmost declarations ≡ now → length scopes ≡ length now.scopes
+seen_count scopes inmost declarations now seen =
+    omega (arith, length-paths [] scopes, ap (λ (now : Declared). length now.scopes) seen)

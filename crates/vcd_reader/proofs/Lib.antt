@@ -4,6 +4,8 @@ pub mod GroupLemmas
 pub mod HeaderLemmas
 pub mod HeaderSteps
 pub mod ListLemmas
+pub mod MatchingLemmas
+pub mod PlaceLemmas
 pub mod SectionLemmas
 pub mod SelectLemmas
 pub mod SizeLemmas

@@ -1,3 +1,4 @@
+pub mod Bits
 pub mod Body
 pub mod Changes
 pub mod Decimals

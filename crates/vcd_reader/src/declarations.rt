@@ -1,4 +1,7 @@
-ghost use Rattle.std.specs.Prelude.{◌≡◌, ◌⊎◌, ◌∷◌, ◌++◌, ◌==◌, [], None, Some, IfErr, OnOk, length, map};
+ghost use Rattle.std.specs.Prelude.{◌≡◌, ◌⊎◌, ◌∷◌, ◌++◌, ◌==◌, ◌<◌, [], None, Some, IfErr, OnOk, length, map, slice_index_or};
+ghost use Rattle.std.specs.Option.{option_map};
+ghost use Rattle.vcd_reader.specs.Bits.{source_shown, wanted_of};
+ghost use Rattle.vcd_reader.specs.Matching.{source_of, within};
 ghost use Rattle.vcd_reader.specs.Header.{clashes, declaration_fault};
 ghost use Rattle.vcd_reader.specs.Scopes.{parent};
 ghost use Rattle.vcd_reader.specs.Tokens.{tok_of};
@@ -7,9 +10,12 @@ ghost use Rattle.vcd_reader.specs.declared.fault.VcdFault.TheVariants.{Memory};
 
 use crate::declaration::declared_by;
 use crate::fault::VcdFault;
+use crate::place::source_among;
 use crate::scope::Scope;
+use crate::source::BitSource;
 use crate::token::Token;
 use crate::variables::Variables;
+use crate::wanted::WantedBit;
 use bm_base::NoMemory;
 use std::alloc::Global;
 use std::marker::Model;
@@ -78,6 +84,22 @@ impl<'a> Declarations<'a> {
         if let Some(number) = self.inmost {
             self.inmost = self.scopes[number].parent;
         }
+    }
+
+    /// How often a scope was opened.
+    pub(crate) fn scope_count(&self) -> usize
+        ensures { result ≡ length self.now.scopes }
+    {
+        self.scopes.len()
+    }
+
+    /// Where the bit comes from, if a variable directly in the scope of this number gives it.
+    pub(crate) fn source_of(&self, number: usize, bit: &WantedBit) -> Option<BitSource<'a>>
+        requires { number < length self.now.scopes }
+        ensures { option_map source_shown result
+            ≡ source_of (within (slice_index_or self.now.scopes number []) self.now.variables) (wanted_of bit.now) }
+    {
+        source_among(&self.scopes, self.variables.list(), number, bit)
     }
 
     /// Declares what a `$var` at this place with these tokens declares in the open scope.

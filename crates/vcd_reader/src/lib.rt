@@ -9,12 +9,16 @@ mod fault;
 mod form;
 mod header;
 pub mod laws;
+mod matching;
+mod place;
 mod scope;
 mod section;
 mod select;
 mod sizes;
+mod source;
 mod token;
 mod variables;
+mod wanted;
 
 pub use fault::VcdFault;
 pub use form::Form;

@@ -37,6 +37,12 @@ impl<'a> Variables<'a> {
         }
     }
 
+    pub(crate) fn list(&self) -> &[Declaration<'a>]
+        ensures { result.now ≡ self.now }
+    {
+        &self.list
+    }
+
     /// The size with which the code was declared first.
     pub(crate) fn size_of(&self, code: &[u8]) -> Option<u32>
         ensures { result ≡ size_among self.now code.now }
