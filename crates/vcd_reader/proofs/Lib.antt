@@ -1,3 +1,4 @@
+pub mod BodyLemmas
 pub mod DecimalLemmas
 pub mod DeclareLemmas
 pub mod GroupLemmas

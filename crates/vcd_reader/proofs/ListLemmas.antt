@@ -1,5 +1,6 @@
 -- Lemmas on lists.
 use Rattle.std.proofs.Common.{◌≡◌, ℕ, ◌+◌, ◌-◌, ◌<◌, ◌≤◌, zero, suc, List, [], ◌∷◌, ◌++◌, Bool, true, false, cond, not, ◌||◌, length, take, drop, get_or, arith, refl, subst, sym, ap, ◌∙◌, add-one}
+use Rattle.std.proofs.lemmas.List.{length-drop}
 use Rattle.std.specs.List.{after_first, before_first, list_any, position_or_len}
 
 one_more : (n : ℕ) → 1 + n ≡ suc n
@@ -102,3 +103,14 @@ module _ {X : Type 0} (p : X → Bool) where
       by : (b : Bool) → p x ≡ b → list_any p (take (position_or_len p xs + 1) xs) ≡ list_any p xs → list_any p (take (position_or_len p (x ∷ xs) + 1) (x ∷ xs)) ≡ list_any p (x ∷ xs)
       by true is ih = ap (list_any p) (taken_now x xs is) ∙ any_now x [] is ∙ sym (any_now x xs is)
       by false is ih = ap (list_any p) (taken_more x xs is) ∙ any_more x (take (position_or_len p xs + 1) xs) is ∙ ih ∙ sym (any_more x xs is)
+
+  pub after_none : (xs : List X) → list_any p xs ≡ false → after_first p xs ≡ []
+  after_none [] none = refl
+  after_none (x ∷ xs) none = by (p x) refl none (after_none xs)
+    where
+      by : (b : Bool) → p x ≡ b → (b || list_any p xs) ≡ false → (list_any p xs ≡ false → after_first p xs ≡ []) → after_first p (x ∷ xs) ≡ []
+      by true is none ih = absurd (cc)
+      by false is none ih = after_more x xs is ∙ ih none
+
+  pub after_shorter : (xs : List X) → length (after_first p xs) ≤ length xs
+  after_shorter xs = omega (arith, length-drop (position_or_len p xs + 1) xs)

@@ -1,14 +1,16 @@
 -- Paths, name by name from the innermost on, and what stands in a scope.
-use Rattle.std.proofs.Common.{◌≡◌, ℕ, ◌+◌, ◌<◌, ◌≤◌, zero, suc, List, [], ◌∷◌, ◌++◌, Bool, true, false, cond, not, ◌&&◌, length, map, drop, get_or, All, Option, Some, None, if◌then◌else◌, arith, refl, subst, sym, ap, ◌∙◌}
+use Rattle.std.proofs.Common.{◌≡◌, ℕ, ◌+◌, ◌<◌, ◌≤◌, zero, suc, List, [], ◌∷◌, ◌++◌, Bool, true, false, cond, not, ◌&&◌, ◌==◌, length, map, drop, take, reverse, get_or, All, Option, Some, None, if◌then◌else◌, arith, refl, subst, sym, ap, ◌∙◌}
 use Rattle.std.specs.List.{filter}
 use Rattle.std.specs.Option.{option_map, option_or}
 use Rattle.std.specs.Str.{bytes_eq}
+use denote.Ref.{Bor}
+use Rattle.std.proofs.lemmas.List.{append_assoc, append-nil, length-map, length-reverse, length-take-le, map-append, reverse-append, take_more}
 use Rattle.std.proofs.lemmas.Slice.Eq.{bytes_eq-Decides}
 use Rattle.vcd_reader.specs.declared.declaration.Declaration.{Declaration}
 use Rattle.vcd_reader.specs.declared.scope.Scope.{Scope}
-use Rattle.vcd_reader.specs.Declares.{AreNested, IsBelow, declares, path_in, paths_of}
+use Rattle.vcd_reader.specs.Declares.{AreNested, IsBelow, declares, path_in, paths_of, texts}
 use Rattle.vcd_reader.specs.Matching.{Source, Wanted, source_by, source_of, within}
-use Rattle.vcd_reader.specs.Scopes.{Path, same_path}
+use Rattle.vcd_reader.specs.Scopes.{Path, dotted, same_path}
 use Rattle.vcd_reader.specs.Variables.{Variable}
 use Rattle.vcd_reader.proofs.DeclareLemmas.{parent_below, parent_inside, path_of_number}
 
@@ -146,3 +148,42 @@ not_false false h = sym h
 pub not_true : (b : Bool) → not b ≡ true → b ≡ false
 not_true true h = sym h
 not_true false h = refl
+
+-- ---- names, from the innermost outwards
+
+pub names_more : (scopes : List Scope) (next : Option ℕ) (n : ℕ) (d : Scope) (before after : List (Bor (List ℕ))) (whole : Path) → AreNested 0 scopes → IsBelow (length scopes) next → next ≡ Some n
+    → after ≡ before ++ (get_or scopes n d).name ∷ [] → path_in (paths_of scopes) next ++ reverse (texts before) ≡ whole
+    → path_in (paths_of scopes) (get_or scopes n d).parent ++ reverse (texts after) ≡ whole
+names_more scopes next n d before after whole nested below is pushed same =
+    let name = (get_or scopes n d).name.now in
+    let outer = path_in (paths_of scopes) (get_or scopes n d).parent in
+    let within : n < length scopes = subst (IsBelow (length scopes)) is below in
+    ap (λ (names : List (Bor (List ℕ))). outer ++ reverse (texts names)) pushed
+    ∙ ap (λ names. outer ++ reverse names) (map-append (λ (name : Bor (List ℕ)). name.now) before ((get_or scopes n d).name ∷ []))
+    ∙ ap (λ names. outer ++ names) (reverse-append (texts before) (name ∷ []))
+    ∙ sym (append_assoc outer (name ∷ []) (reverse (texts before)))
+    ∙ ap (λ path. path ++ reverse (texts before)) (sym (ap (path_in (paths_of scopes)) is ∙ number_split scopes n d nested within))
+    ∙ same
+
+dotted_first : (name : List ℕ) (rest : Path) (last : Bool) → last ≡ (length rest == 0) → dotted (name ∷ rest) ≡ (name ++ (if last then [] else 46 ∷ [])) ++ dotted rest
+dotted_first name [] last is = rw is (sym (append-nil (name ++ []) ∙ append-nil name))
+dotted_first name (next ∷ rest) last is =
+    let more : (length (next ∷ rest) == 0) ≡ false = grind arith in
+    sym (ap (λ last. (name ++ (if last then [] else 46 ∷ [])) ++ dotted (next ∷ rest)) (is ∙ more) ∙ append_assoc name (46 ∷ []) (dotted (next ∷ rest)))
+
+pub dotted_more : (names : List (Bor (List ℕ))) (left : ℕ) (d : Bor (List ℕ)) (text before : List ℕ) (whole : List ℕ) → left < length names
+    → text ≡ before ++ ((get_or names left d).now ++ (if left == 0 then [] else 46 ∷ [])) → before ++ dotted (reverse (texts (take (left + 1) names))) ≡ whole
+    → text ++ dotted (reverse (texts (take left names))) ≡ whole
+dotted_more names left d text before whole within put same =
+    let name = get_or names left d in
+    let rest = reverse (texts (take left names)) in
+    let part = name.now ++ (if left == 0 then [] else 46 ∷ []) in
+    let len : length rest ≡ left = length-reverse (texts (take left names)) ∙ length-map (take left names) (λ (name : Bor (List ℕ)). name.now) ∙ length-take-le left names (omega arith) in
+    let front : reverse (texts (take (left + 1) names)) ≡ name.now ∷ rest =
+    ap (λ (names : List (Bor (List ℕ))). reverse (texts names)) (take_more names left d within)
+    ∙ ap reverse (map-append (λ (name : Bor (List ℕ)). name.now) (take left names) (name ∷ []))
+    ∙ reverse-append (texts (take left names)) (name.now ∷ []) in
+    ap (λ text. text ++ dotted rest) put
+    ∙ append_assoc before part (dotted rest)
+    ∙ ap (λ text. before ++ text) (sym (ap dotted front ∙ dotted_first name.now rest (left == 0) (ap (λ n. n == 0) (sym len))))
+    ∙ same

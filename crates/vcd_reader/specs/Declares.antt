@@ -1,8 +1,12 @@
 -- What a header declares, section by section, and how that is kept.
-use Rattle.std.specs.Prelude.{ℕ, suc, ◌<◌, List, [], ◌∷◌, ◌++◌, All, codes, length, map, slice_index_or, Option, None, Some, IfSome, if◌then◌else◌}
+use Rattle.std.specs.Prelude.{ℕ, suc, ◌<◌, List, [], ◌∷◌, ◌++◌, All, codes, length, map, slice_index_or, Option, None, Some, IfSome, Result, if◌then◌else◌}
 use Rattle.std.specs.List.{find}
 use Rattle.std.specs.Option.{option_map}
 use Rattle.std.specs.Str.{bytes_eq}
+use Rattle.trace_rows.specs.declared.labels.Labels.{Labels}
+use Rattle.vcd_reader.specs.declared.fault.VcdFault.{VcdFault}
+use Rattle.vcd_reader.specs.Matching.{Source, scope_for, sources_in, wanted}
+use denote.Ref.{Bor}
 use Rattle.vcd_reader.specs.declared.declaration.Declaration.{Declaration}
 use Rattle.vcd_reader.specs.declared.scope.Scope.{Scope}
 use Rattle.vcd_reader.specs.Scopes.{Path, scope_after, scope_by, scope_of, scopes}
@@ -39,6 +43,14 @@ declared_with before first inside = record {
   scopes = before.scopes ++ (if is_word (codes "$scope") first then scope_by before.path first inside ∷ [] else []);
   variables = before.variables ++ one_or_none (variable_by before.path first inside);
 }
+
+-- where the wanted bits come from, or why that is not known
+abbrev pub matched_in : Declared → Labels → Option (List ℕ) → Result (List Source) VcdFault
+matched_in all labels scope = sources_in all.variables (wanted labels) (scope_for all.scopes all.variables (wanted labels) scope)
+
+-- names as contracts see them
+abbrev pub texts : List (Bor (List ℕ)) → Path
+texts names = map (λ (name : Bor (List ℕ)). name.now) names
 
 -- ---- scopes by numbers
 

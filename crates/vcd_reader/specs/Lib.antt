@@ -8,6 +8,7 @@ pub mod Faults
 pub mod Header
 pub mod Matching
 pub mod Rows
+pub mod Said
 pub mod Scopes
 pub mod Sections
 pub mod Sizes

@@ -1,14 +1,16 @@
-ghost use Rattle.std.specs.Prelude.{◌≡◌, ◌⊎◌, ◌∷◌, ◌++◌, ◌==◌, ◌<◌, [], None, Some, IfErr, OnOk, length, map, slice_index_or};
+ghost use Rattle.std.specs.Prelude.{◌≡◌, ◌⊎◌, ◌∷◌, ◌++◌, ◌==◌, ◌<◌, [], None, Some, IfErr, IfOk, OnOk, length, map, slice_index_or};
+ghost use Rattle.std.specs.Str.{bytes_eq};
 ghost use Rattle.std.specs.Option.{option_map};
 ghost use Rattle.vcd_reader.specs.Bits.{source_shown, wanted_of};
 ghost use Rattle.vcd_reader.specs.Matching.{source_of, within};
 ghost use Rattle.vcd_reader.specs.Header.{clashes, declaration_fault};
-ghost use Rattle.vcd_reader.specs.Scopes.{parent};
+ghost use Rattle.vcd_reader.specs.Scopes.{dotted, parent};
 ghost use Rattle.vcd_reader.specs.Tokens.{tok_of};
 ghost use Rattle.vcd_reader.specs.Variables.{declared_by, one_or_none};
 ghost use Rattle.vcd_reader.specs.declared.fault.VcdFault.TheVariants.{Memory};
 
 use crate::declaration::declared_by;
+use crate::dotted::dotted;
 use crate::fault::VcdFault;
 use crate::place::source_among;
 use crate::scope::Scope;
@@ -100,6 +102,20 @@ impl<'a> Declarations<'a> {
             ≡ source_of (within (slice_index_or self.now.scopes number []) self.now.variables) (wanted_of bit.now) }
     {
         source_among(&self.scopes, self.variables.list(), number, bit)
+    }
+
+    /// Whether the scope of this number has this name, its own behind those that it stands in, with dots between them.
+    pub(crate) fn is_named(
+        &self,
+        alloc: Global,
+        number: usize,
+        name: &str,
+    ) -> Result<bool, NoMemory>
+        requires { number < length self.now.scopes }
+        ensures { IfOk result (λ named. named ≡ bytes_eq (dotted (slice_index_or self.now.scopes number [])) name.now) }
+    {
+        let text = dotted(alloc, &self.scopes, number)?;
+        Ok(text.as_slice() == name.as_bytes())
     }
 
     /// Declares what a `$var` at this place with these tokens declares in the open scope.

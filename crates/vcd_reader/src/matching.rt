@@ -1,19 +1,76 @@
 ghost use Rattle.std.specs.Prelude.{◌≡◌, ◌⊎◌, ◌<◌, Err, IfErr, IfOk, IfSome, Ok, length, map, option_copied, slice_index_or, [], None, Some};
 ghost use Rattle.std.specs.List.{find};
 ghost use Rattle.std.specs.Option.{option_map};
+ghost use Rattle.std.specs.Str.{bytes_eq};
+ghost use Rattle.vcd_reader.specs.Declares.{matched_in};
+ghost use Rattle.vcd_reader.specs.Scopes.{dotted};
 ghost use Rattle.vcd_reader.specs.Bits.{source_shown, wanted_of};
-ghost use Rattle.vcd_reader.specs.Matching.{gives_all, sources_of, within};
+ghost use Rattle.vcd_reader.specs.Matching.{gives_all, scope_for, sources_of, within};
 ghost use Rattle.vcd_reader.specs.declared.fault.VcdFault.TheVariants.{Memory};
 
 use crate::declarations::Declarations;
 use crate::fault::VcdFault;
 use crate::source::BitSource;
-use crate::wanted::WantedBit;
-use bm_base::Name;
+use crate::wanted::{WantedBit, wanted};
+use bm_base::{Name, NoMemory};
 use std::alloc::Global;
+use trace_rows::Labels;
 
-/// The first opened scope that directly gives every bit, by its number.
-pub(crate) fn full_scope(declarations: &Declarations, bits: &[WantedBit]) -> Option<usize>
+/// Where the clock and the bits of the rows come from: the variables of the scope of this name or, without one, of the
+/// first scope that gives them all.
+pub(crate) fn matched<'a>(
+    alloc: Global,
+    declarations: &Declarations<'a>,
+    labels: &Labels,
+    scope: Option<&str>,
+) -> Result<Vec<BitSource<'a>>, VcdFault>
+    ensures ok { IfOk result (λ sources. matched_in declarations.now labels.now (option_copied scope.entry) ≡ Ok (map source_shown sources.items)) }
+    ensures err { IfErr result (λ fault. (matched_in declarations.now labels.now (option_copied scope.entry) ≡ Err fault) ⊎ (fault ≡ Memory)) }
+{
+    let bits = wanted(alloc, labels)?;
+    match scope_for(alloc, declarations, &bits, scope)? {
+        Some(number) => sources_in(alloc, declarations, number, &bits),
+        None => Err(VcdFault::NoScope),
+    }
+}
+
+// The scope, by its number.
+fn scope_for(
+    alloc: Global,
+    declarations: &Declarations,
+    bits: &[WantedBit],
+    scope: Option<&str>,
+) -> Result<Option<usize>, NoMemory>
+    ensures scope { IfOk result (λ number. option_map (λ number. slice_index_or declarations.now.scopes number []) number
+        ≡ scope_for declarations.now.scopes declarations.now.variables (map wanted_of bits.now) (option_copied scope.entry)) }
+    ensures there { IfOk result (λ number. IfSome number (λ number. number < length declarations.now.scopes)) }
+{
+    match scope {
+        Some(name) => named_scope(alloc, declarations, name),
+        None => Ok(full_scope(declarations, bits)),
+    }
+}
+
+// The first opened scope of this name, by its number.
+fn named_scope(
+    alloc: Global,
+    declarations: &Declarations,
+    name: &str,
+) -> Result<Option<usize>, NoMemory>
+    ensures scope { IfOk result (λ number. option_map (λ number. slice_index_or declarations.now.scopes number []) number
+        ≡ find (λ path. bytes_eq (dotted path) name.now) declarations.now.scopes) }
+    ensures there { IfOk result (λ number. IfSome number (λ number. number < length declarations.now.scopes)) }
+{
+    for number in 0..declarations.scope_count() {
+        if declarations.is_named(alloc, number, name)? {
+            return Ok(Some(number));
+        }
+    }
+    Ok(None)
+}
+
+// The first opened scope that directly gives every bit, by its number.
+fn full_scope(declarations: &Declarations, bits: &[WantedBit]) -> Option<usize>
     ensures scope { option_map (λ number. slice_index_or declarations.now.scopes number []) result
         ≡ find (gives_all declarations.now.variables (map wanted_of bits.now)) declarations.now.scopes }
     ensures there { IfSome result (λ number. number < length declarations.now.scopes) }
@@ -40,8 +97,8 @@ fn gives_all(declarations: &Declarations, bits: &[WantedBit], number: usize) -> 
     true
 }
 
-/// Where the bits come from, if the scope of this number directly gives them all.
-pub(crate) fn sources_in<'a>(
+// Where the bits come from, if the scope of this number directly gives them all.
+fn sources_in<'a>(
     alloc: Global,
     declarations: &Declarations<'a>,
     number: usize,
