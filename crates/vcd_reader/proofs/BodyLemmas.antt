@@ -1,5 +1,5 @@
 -- The items of a body, token by token.
-use Rattle.std.proofs.Common.{◌≡◌, List, [], ◌∷◌, ◌++◌, Bool, true, false, cond, drop, take, if◌then◌else◌, refl, sym, ap, ◌∙◌}
+use Rattle.std.proofs.Common.{◌≡◌, List, [], ◌∷◌, Bool, true, false, drop, take, if◌then◌else◌, refl, sym, ap, ◌∙◌}
 use Rattle.std.specs.List.{after_first}
 use Rattle.vcd_reader.specs.declared.form.Form.{Form}
 use Rattle.vcd_reader.specs.declared.form.Form.TheVariants.{Time, Scalar, Vector, Real, Passed, Section, Wrong}

@@ -1,9 +1,9 @@
 -- Numbers, digit by digit.
-use Rattle.std.proofs.Common.{◌≡◌, ℕ, ◌+◌, ◌-◌, ◌*◌, ◌<◌, ◌≤◌, zero, suc, List, [], ◌∷◌, Bool, true, false, not, ◌&&◌, length, drop, get_or, nat_le, Option, Some, None, IsTrue, if◌then◌else◌, arith, refl, sym, ap, ◌∙◌}
+use Rattle.std.proofs.Common.{◌≡◌, ℕ, ◌+◌, ◌-◌, ◌*◌, ◌<◌, ◌≤◌, List, [], ◌∷◌, Bool, true, false, ◌&&◌, length, drop, get_or, nat_le, Option, Some, None, if◌then◌else◌, arith, refl, sym, ap, ◌∙◌}
 use Rattle.std.specs.Char.{is_ascii_digit}
 use Rattle.std.specs.List.{list_all}
 use Rattle.std.proofs.lemmas.List.{drop_more}
-use Rattle.vcd_reader.specs.Decimals.{is_numeral, number_up_to, value_after}
+use Rattle.vcd_reader.specs.Decimals.{value_after}
 
 -- the number that digits write behind a number, if it is at most this much
 abbrev pub number_after : ℕ → ℕ → List ℕ → Option ℕ

@@ -1,6 +1,6 @@
 -- Scopes by numbers, and what is declared, one more at a time.
-use Rattle.std.proofs.Common.{◌≡◌, ℕ, ◌+◌, ◌-◌, ◌<◌, ◌≤◌, ◌==◌, zero, suc, List, [], ◌∷◌, ◌++◌, Bool, true, false, length, map, take, drop, get_or, All, Option, Some, None, IfSome, arith, refl, subst, sym, ap, ◌∙◌}
-use Rattle.std.proofs.lemmas.List.{append_assoc, append-nil, get_or_append_left, get_or_at, length-append, map-append, take_at}
+use Rattle.std.proofs.Common.{◌≡◌, ℕ, ◌+◌, ◌<◌, ◌≤◌, ◌==◌, zero, suc, List, [], ◌∷◌, ◌++◌, true, false, length, map, take, get_or, All, Option, Some, None, arith, refl, subst, sym, ap, ◌∙◌}
+use Rattle.std.proofs.lemmas.List.{get_or_append_left, get_or_at, length-append, take_at}
 use Rattle.vcd_reader.specs.declared.declaration.Declaration.{Declaration}
 use Rattle.vcd_reader.specs.declared.scope.Scope.{Scope}
 use Rattle.vcd_reader.specs.Declares.{AreKept, AreNested, Declared, IsBelow, declared_as, declares, path_in, paths_from, paths_of, size_among}
@@ -9,7 +9,7 @@ use Rattle.vcd_reader.specs.Faults.{fault_if}
 use Rattle.vcd_reader.specs.Header.{clashes, declaration_fault}
 use Rattle.vcd_reader.specs.Scopes.{Path, parent}
 use Rattle.vcd_reader.specs.Tokens.{Tok}
-use Rattle.vcd_reader.specs.Variables.{declared_by}
+use Rattle.vcd_reader.specs.Variables.{declared_by, size_of}
 use Rattle.vcd_reader.proofs.SizeLemmas.{size_seen}
 
 -- the scope that a scope is, behind these
@@ -188,3 +188,9 @@ declared_fault scopes inmost declarations now declaration at tokens seen read =
 pub seen_count : (scopes : List Scope) (inmost : Option ℕ) (declarations : List Declaration) (now : Declared) → declared_as scopes inmost declarations ≡ now → length scopes ≡ length now.scopes
 seen_count scopes inmost declarations now seen =
     omega (arith, length-paths [] scopes, ap (λ (now : Declared). length now.scopes) seen)
+
+-- the size of a code, as it is kept
+pub seen_size : (scopes : List Scope) (inmost : Option ℕ) (declarations : List Declaration) (now : Declared) (code : List ℕ) → declared_as scopes inmost declarations ≡ now
+    → size_among declarations code ≡ size_of now.variables code
+seen_size scopes inmost declarations now code seen =
+    sym (size_seen (paths_of scopes) declarations code) ∙ ap (λ (now : Declared). size_of now.variables code) seen

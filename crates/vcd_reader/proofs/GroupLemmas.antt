@@ -1,16 +1,14 @@
 -- Groups of tokens, one at a time.
-use Rattle.std.proofs.Common.{◌≡◌, ◌⊎◌, inl, inr, ℕ, ◌+◌, zero, suc, List, [], ◌∷◌, ◌++◌, Bool, true, false, cond, not, ◌||◌, length, map, take, drop, Option, Some, None, if◌then◌else◌, refl, subst, sym, ap, ◌∙◌}
-use Rattle.std.specs.List.{after_first, before_first, flat_map, list_any, onto_first, position_or_len}
+use Rattle.std.proofs.Common.{◌≡◌, ℕ, ◌+◌, List, [], ◌∷◌, ◌++◌, Bool, true, false, not, ◌||◌, take, drop, Some, None, refl, sym, ap, ◌∙◌}
+use Rattle.std.specs.List.{after_first, flat_map, list_any, onto_first, position_or_len}
 use Rattle.std.specs.Option.{option_or}
-use Rattle.std.proofs.lemmas.List.{append_assoc, append-nil}
+use Rattle.std.proofs.lemmas.List.{append_assoc}
 use Rattle.vcd_reader.specs.declared.fault.VcdFault.{VcdFault}
-use Rattle.vcd_reader.specs.declared.fault.VcdFault.TheVariants.{Token, Truncated}
+use Rattle.vcd_reader.specs.declared.fault.VcdFault.TheVariants.{Truncated}
 use Rattle.vcd_reader.specs.Faults.{fault_if, first_fault}
-use Rattle.vcd_reader.specs.Header.{fault_within, group_fault, header_fault}
-use Rattle.vcd_reader.specs.Scopes.{Path, scope_of}
-use Rattle.vcd_reader.specs.Sections.{body, ends_header, group_rest, groups, has_header_end, header, inner, is_closed, is_end}
+use Rattle.vcd_reader.specs.Header.{group_fault, header_fault}
+use Rattle.vcd_reader.specs.Sections.{body, ends_header, group_rest, groups, has_header_end, header, is_end}
 use Rattle.vcd_reader.specs.Tokens.{Tok}
-use Rattle.vcd_reader.specs.Variables.{Variable, variables}
 use Rattle.vcd_reader.proofs.ListLemmas.{after_more, after_now, any_append, drop_through, take_first, take_through, taken_more, taken_now}
 
 pub groups_end : (first : Tok) (rest : List Tok) → is_end first ≡ true → groups (first ∷ rest) ≡ (first ∷ []) ∷ groups rest

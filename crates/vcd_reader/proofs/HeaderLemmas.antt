@@ -1,11 +1,11 @@
 -- A section of a header, by its first token and those behind it.
-use Rattle.std.proofs.Common.{◌≡◌, ◌⊎◌, inl, inr, ℕ, List, [], ◌∷◌, Bool, true, false, not, ◌||◌, codes, Option, Some, None, IfSome, if◌then◌else◌, refl, subst, sym, ap, ◌∙◌}
+use Rattle.std.proofs.Common.{◌≡◌, ◌⊎◌, inl, inr, List, ◌∷◌, Bool, true, false, not, ◌||◌, codes, Option, Some, None, IfSome, if◌then◌else◌, refl, subst, sym, ap, ◌∙◌}
 use Rattle.vcd_reader.specs.declared.fault.VcdFault.{VcdFault}
-use Rattle.vcd_reader.specs.declared.fault.VcdFault.TheVariants.{Memory, Token, Truncated}
+use Rattle.vcd_reader.specs.declared.fault.VcdFault.TheVariants.{Memory, Truncated}
 use Rattle.vcd_reader.specs.Declares.{Declared, declared_behind, declared_with}
 use Rattle.vcd_reader.specs.Header.{begins_section, fault_within, form_fault}
 use Rattle.vcd_reader.specs.Scopes.{Path}
-use Rattle.vcd_reader.specs.Sections.{ends_header, group_rest, inner, is_closed, is_end, is_word}
+use Rattle.vcd_reader.specs.Sections.{group_rest, inner, is_closed, is_end, is_word}
 use Rattle.vcd_reader.specs.Tokens.{Tok}
 use Rattle.vcd_reader.specs.Variables.{Variable}
 use Rattle.vcd_reader.proofs.ListLemmas.{any_taken, before_taken}

@@ -1,5 +1,5 @@
 -- A header, one group more.
-use Rattle.std.proofs.Common.{◌≡◌, ◌⊎◌, inl, inr, ℕ, List, [], ◌∷◌, ◌++◌, Bool, true, false, not, codes, Option, Some, None, if◌then◌else◌, refl, subst, sym, ap, ◌∙◌}
+use Rattle.std.proofs.Common.{◌≡◌, ◌⊎◌, inl, inr, ℕ, List, [], ◌∷◌, ◌++◌, Bool, true, false, Some, None, refl, subst, sym, ap, ◌∙◌}
 use Rattle.std.specs.List.{after_first, fold}
 use Rattle.std.proofs.lemmas.List.{append_assoc, append-nil}
 use Rattle.vcd_reader.specs.declared.fault.VcdFault.{VcdFault}
@@ -9,8 +9,8 @@ use Rattle.vcd_reader.specs.Header.{fault_within, group_fault, header_fault}
 use Rattle.vcd_reader.specs.Scopes.{Path, opened_from, scope_after, scope_of}
 use Rattle.vcd_reader.specs.Sections.{body, ends_header, group_rest, groups, header, is_end}
 use Rattle.vcd_reader.specs.Tokens.{Tok}
-use Rattle.vcd_reader.specs.Variables.{Variable, declared, declared_from, one_or_none, variables}
-use Rattle.vcd_reader.proofs.GroupLemmas.{HasEnded, HasRead, cut_off, fault_at_group, groups_end, groups_first, has_ended, has_read_more}
+use Rattle.vcd_reader.specs.Variables.{Variable, declared, declared_from, one_or_none}
+use Rattle.vcd_reader.proofs.GroupLemmas.{HasRead, cut_off, fault_at_group, groups_end, groups_first, has_ended, has_read_more}
 
 scope_more : (path : Path) (before : List (List Tok)) (group : List Tok) → fold scope_after path (before ++ group ∷ []) ≡ scope_after (fold scope_after path before) group
 scope_more path [] group = refl

@@ -7,6 +7,7 @@ pub mod HeaderSteps
 pub mod ListLemmas
 pub mod MatchingLemmas
 pub mod PlaceLemmas
+pub mod SaidLemmas
 pub mod SectionLemmas
 pub mod SelectLemmas
 pub mod SizeLemmas

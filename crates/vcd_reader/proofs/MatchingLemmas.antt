@@ -1,12 +1,11 @@
 -- The bits of a scope, one by one.
-use Rattle.std.proofs.Common.{◌≡◌, ℕ, ◌+◌, ◌<◌, List, [], ◌∷◌, ◌++◌, Bool, true, false, cond, ◌&&◌, length, map, drop, get_or, Option, Some, None, is_some, Result, Ok, Err, arith, refl, subst, sym, ap, ◌∙◌}
-use Rattle.std.specs.List.{find, list_all}
-use Rattle.std.proofs.lemmas.List.{append_assoc, drop_more}
+use Rattle.std.proofs.Common.{◌≡◌, ℕ, ◌+◌, List, [], ◌∷◌, ◌++◌, map, drop, Some, None, Result, Ok, Err, refl, sym, ap, ◌∙◌}
+use Rattle.std.proofs.lemmas.List.{append_assoc}
 use Rattle.vcd_reader.specs.declared.fault.VcdFault.{VcdFault}
 use Rattle.vcd_reader.specs.declared.fault.VcdFault.TheVariants.{NoSignal}
 use Rattle.vcd_reader.specs.declared.wanted.WantedBit.{WantedBit}
 use Rattle.vcd_reader.specs.Bits.{wanted_of}
-use Rattle.vcd_reader.specs.Matching.{Source, Wanted, source_of, sources_of, with_source}
+use Rattle.vcd_reader.specs.Matching.{Source, source_of, sources_of, with_source}
 use Rattle.vcd_reader.specs.Variables.{Variable}
 
 -- these sources, and then others

@@ -1,15 +1,13 @@
 -- Paths, name by name from the innermost on, and what stands in a scope.
-use Rattle.std.proofs.Common.{◌≡◌, ℕ, ◌+◌, ◌<◌, ◌≤◌, zero, suc, List, [], ◌∷◌, ◌++◌, Bool, true, false, cond, not, ◌&&◌, ◌==◌, length, map, drop, take, reverse, get_or, All, Option, Some, None, if◌then◌else◌, arith, refl, subst, sym, ap, ◌∙◌}
-use Rattle.std.specs.List.{filter}
-use Rattle.std.specs.Option.{option_map, option_or}
+use Rattle.std.proofs.Common.{◌≡◌, ℕ, ◌+◌, ◌<◌, List, [], ◌∷◌, ◌++◌, Bool, true, false, cond, not, ◌&&◌, ◌==◌, length, take, reverse, get_or, Option, Some, None, if◌then◌else◌, arith, refl, subst, sym, ap, ◌∙◌}
+use Rattle.std.specs.Option.{option_or}
 use Rattle.std.specs.Str.{bytes_eq}
 use denote.Ref.{Bor}
 use Rattle.std.proofs.lemmas.List.{append_assoc, append-nil, length-map, length-reverse, length-take-le, map-append, reverse-append, take_more}
 use Rattle.std.proofs.lemmas.Slice.Eq.{bytes_eq-Decides}
-use Rattle.vcd_reader.specs.declared.declaration.Declaration.{Declaration}
 use Rattle.vcd_reader.specs.declared.scope.Scope.{Scope}
-use Rattle.vcd_reader.specs.Declares.{AreNested, IsBelow, declares, path_in, paths_of, texts}
-use Rattle.vcd_reader.specs.Matching.{Source, Wanted, source_by, source_of, within}
+use Rattle.vcd_reader.specs.Declares.{AreNested, IsBelow, path_in, paths_of, texts}
+use Rattle.vcd_reader.specs.Matching.{Wanted, source_by, source_of, within}
 use Rattle.vcd_reader.specs.Scopes.{Path, dotted, same_path}
 use Rattle.vcd_reader.specs.Variables.{Variable}
 use Rattle.vcd_reader.proofs.DeclareLemmas.{parent_below, parent_inside, path_of_number}

@@ -1,5 +1,5 @@
 -- Sections, token by token.
-use Rattle.std.proofs.Common.{◌≡◌, ℕ, ◌+◌, List, [], ◌∷◌, ◌++◌, Bool, true, false, length, map, take, drop, refl, sym, ap, ◌∙◌}
+use Rattle.std.proofs.Common.{◌≡◌, List, [], ◌∷◌, ◌++◌, false, map, sym, ap, ◌∙◌}
 use Rattle.std.specs.List.{after_first}
 use Rattle.std.proofs.lemmas.List.{append_assoc, map-append}
 use Rattle.vcd_reader.specs.declared.token.Token.{Token}

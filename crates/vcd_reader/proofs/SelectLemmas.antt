@@ -1,6 +1,6 @@
 -- Selects, part by part.
-use Rattle.std.proofs.Common.{◌≡◌, ℕ, ◌+◌, ◌-◌, ◌<◌, ◌≤◌, ◌==◌, ◌&&◌, zero, suc, List, [], ◌∷◌, Bool, true, false, cond, not, length, take, drop, get_or, arith, Option, None, refl, sym, ap, ◌∙◌}
-use Rattle.std.specs.List.{list_any, position_or_len}
+use Rattle.std.proofs.Common.{◌≡◌, ℕ, ◌+◌, ◌-◌, ◌<◌, ◌≤◌, ◌==◌, ◌&&◌, suc, List, [], ◌∷◌, Bool, true, false, cond, length, take, drop, get_or, arith, None, refl, sym, ap, ◌∙◌}
+use Rattle.std.specs.List.{position_or_len}
 use Rattle.vcd_reader.specs.Decimals.{small_number}
 use Rattle.vcd_reader.specs.Variables.{indices, is_colon, range_of, select_of}
 use Rattle.vcd_reader.proofs.ListLemmas.{any_within, none_within}

@@ -1,5 +1,5 @@
 -- Tokens, token by token.
-use Rattle.std.proofs.Common.{◌≡◌, ℕ, ◌+◌, ◌-◌, ◌<◌, ◌≤◌, ◌==◌, zero, suc, List, [], ◌∷◌, Bool, true, false, cond, not, length, take, drop, get_or, arith, refl, subst, sym, ap, ◌∙◌, add-one}
+use Rattle.std.proofs.Common.{◌≡◌, ℕ, ◌+◌, ◌-◌, ◌<◌, ◌≤◌, ◌==◌, zero, suc, List, [], ◌∷◌, Bool, true, false, cond, length, take, drop, get_or, arith, refl, subst, sym, ap, ◌∙◌}
 use Rattle.std.specs.List.{prefix_len, slice_range}
 use Rattle.std.proofs.lemmas.List.{drop_more, drop-drop}
 use Rattle.vcd_reader.specs.Tokens.{Tok, is_blank, is_ink, tokens_from, with_byte}

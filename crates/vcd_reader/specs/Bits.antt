@@ -1,5 +1,4 @@
 -- Wanted bits and their sources as contracts see them.
-use Rattle.std.specs.Prelude.{List}
 use Rattle.vcd_reader.specs.declared.source.BitSource.{BitSource}
 use Rattle.vcd_reader.specs.declared.wanted.WantedBit.{WantedBit}
 use Rattle.vcd_reader.specs.Matching.{Source, Wanted}

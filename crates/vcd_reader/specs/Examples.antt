@@ -1,11 +1,9 @@
 -- Small waveforms and what they are: the definitions at examples.
-use Rattle.std.specs.Prelude.{◌≡◌, ℕ, List, [], ◌∷◌, ◌++◌, Bool, true, false, codes, Option, None, Some, Result, Ok, Err}
-use Rattle.bm_base.specs.declared.range.Range.{Range}
-use Rattle.trace_rows.specs.Rows.{Rows}
+use Rattle.std.specs.Prelude.{◌≡◌, ℕ, List, [], ◌∷◌, ◌++◌, Bool, true, false, codes, None, Some, Result, Ok, Err}
 use Rattle.trace_rows.specs.declared.labels.Labels.{Labels}
 use Rattle.trace_rows.specs.declared.labels.PortLabel.{PortLabel}
 use Rattle.vcd_reader.specs.declared.fault.VcdFault.{VcdFault}
-use Rattle.vcd_reader.specs.declared.fault.VcdFault.TheVariants.{Token, Truncated, TimeBack, BadCode, TooWide, NoScope, NoSignal, NoTime, Limit}
+use Rattle.vcd_reader.specs.declared.fault.VcdFault.TheVariants.{Token, Truncated, TimeBack, BadCode, TooWide, NoScope, NoSignal, NoTime}
 use Rattle.vcd_reader.specs.Rows.{Reading}
 use Rattle.vcd_reader.specs.Waveform.{waveform}
 

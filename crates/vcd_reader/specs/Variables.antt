@@ -1,5 +1,5 @@
 -- The variables that a header declares.
-use Rattle.std.specs.Prelude.{ℕ, ◌-◌, ◌==◌, ◌&&◌, ◌||◌, not, Bool, List, [], ◌∷◌, ◌++◌, codes, drop, length, nat_lt, slice_index, take, Option, None, Some, if◌then◌else◌}
+use Rattle.std.specs.Prelude.{ℕ, ◌-◌, ◌==◌, ◌&&◌, not, Bool, List, [], ◌∷◌, ◌++◌, codes, drop, length, nat_lt, slice_index, take, Option, None, Some, if◌then◌else◌}
 use Rattle.std.specs.Char.{is_ascii_graphic}
 use Rattle.std.specs.List.{after_first, before_first, before_last, find, flat_map, list_all, list_any}
 use Rattle.std.specs.Option.{option_map}

@@ -1,5 +1,5 @@
 -- What bytes are as a waveform (IEEE 1364-2005, clause 18): rows, or the first fault from the left.
-use Rattle.std.specs.Prelude.{ℕ, ◌+◌, ◌*◌, ◌==◌, Bool, List, [], ◌∷◌, length, nat_lt, Option, None, Some, Result, Ok, Err, if◌then◌else◌}
+use Rattle.std.specs.Prelude.{ℕ, ◌+◌, ◌*◌, ◌==◌, List, [], ◌∷◌, length, nat_lt, Option, None, Some, Result, Ok, Err, if◌then◌else◌}
 use Rattle.std.specs.Option.{option_or}
 use Rattle.bm_base.specs.Size.{limit_of}
 use Rattle.bm_base.specs.declared.size.Size.{Size}

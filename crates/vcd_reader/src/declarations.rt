@@ -6,7 +6,7 @@ ghost use Rattle.vcd_reader.specs.Matching.{source_of, within};
 ghost use Rattle.vcd_reader.specs.Header.{clashes, declaration_fault};
 ghost use Rattle.vcd_reader.specs.Scopes.{dotted, parent};
 ghost use Rattle.vcd_reader.specs.Tokens.{tok_of};
-ghost use Rattle.vcd_reader.specs.Variables.{declared_by, one_or_none};
+ghost use Rattle.vcd_reader.specs.Variables.{declared_by, one_or_none, size_of};
 ghost use Rattle.vcd_reader.specs.declared.fault.VcdFault.TheVariants.{Memory};
 
 use crate::declaration::declared_by;
@@ -116,6 +116,13 @@ impl<'a> Declarations<'a> {
     {
         let text = dotted(alloc, &self.scopes, number)?;
         Ok(text.as_slice() == name.as_bytes())
+    }
+
+    /// The size with which the code was declared.
+    pub(crate) fn size_of(&self, code: &[u8]) -> Option<u32>
+        ensures { result ≡ size_of self.now.variables code.now }
+    {
+        self.variables.size_of(code)
     }
 
     /// Declares what a `$var` at this place with these tokens declares in the open scope.

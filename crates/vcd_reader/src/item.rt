@@ -1,4 +1,4 @@
-ghost use Rattle.std.specs.Prelude.{◌≡◌, ◌++◌, ◌∷◌, length, ◌≤◌};
+ghost use Rattle.std.specs.Prelude.{◌≡◌, ◌++◌, ◌∷◌, ◌<◌, ◌≤◌, [], IfNone, OnSome, length};
 ghost use Rattle.vcd_reader.specs.Body.{behind_end, items, with_code, without_code};
 ghost use Rattle.vcd_reader.specs.Said.{item_of, said_by};
 ghost use Rattle.vcd_reader.specs.Tokens.{tok_of};
@@ -33,7 +33,9 @@ pub(crate) enum Said<'a> {
 
 /// Takes what the body says next.
 pub(crate) fn next_item<'a>(tokens: &mut Tokens<'a>) -> Option<Said<'a>>
-    ensures { items tokens.old ≡ said_by result ++ items tokens.new }
+    ensures said { items tokens.old ≡ said_by result ++ items tokens.new }
+    ensures none { IfNone result (items tokens.old ≡ []) }
+    ensures shorter { OnSome result (length tokens.new < length tokens.old) }
 {
     while let Some(token) = tokens.next() {
         if let Some(said) = said_of(token, tokens) {

@@ -1,6 +1,7 @@
 //! Waveforms are read (IEEE 1364-2005, clause 18): what a value change dump says of the inputs in each cycle, and where it is none.
 #![tactic(auto)]
 
+mod body;
 mod command;
 mod decimal;
 mod declaration;

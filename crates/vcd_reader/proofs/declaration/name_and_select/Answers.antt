@@ -1,4 +1,4 @@
-use Rattle.std.proofs.Common.{◌≡◌, ℕ, ◌==◌, List, [], ◌∷◌, Bool, false, length, map, refl, sym, ◌∙◌}
+use Rattle.std.proofs.Common.{◌≡◌, ℕ, ◌==◌, List, [], ◌∷◌, false, length, map, refl, sym, ◌∙◌}
 use Rattle.vcd_reader.specs.declared.token.Token.{Token}
 use Rattle.vcd_reader.specs.Scopes.{without_backslash}
 use Rattle.vcd_reader.specs.Tokens.{tok_of}

@@ -1,9 +1,9 @@
-use Rattle.std.proofs.Common.{◌≡◌, true, false, inl, map, ap, sym, ◌∙◌, is_some}
+use Rattle.std.proofs.Common.{inl, map, ap, sym, ◌∙◌, is_some}
 use Rattle.std.specs.Global.{Vec}
 use Rattle.vcd_reader.specs.declared.token.Token.{Token}
 use Rattle.vcd_reader.specs.Declares.{declared_with}
-use Rattle.vcd_reader.specs.Header.{begins_section, form_fault}
-use Rattle.vcd_reader.specs.Sections.{inner, is_closed, is_end}
+use Rattle.vcd_reader.specs.Header.{form_fault}
+use Rattle.vcd_reader.specs.Sections.{inner}
 use Rattle.vcd_reader.specs.Tokens.{tok_of}
 use Rattle.vcd_reader.proofs.HeaderLemmas.{declared_inside, fault_of_form, form_of_other, told, within_form, within_open}
 use Rattle.vcd_reader.proofs.header.take_group.Goals as goal

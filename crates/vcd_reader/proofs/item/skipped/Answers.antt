@@ -1,4 +1,4 @@
-use Rattle.std.proofs.Common.{◌≡◌, ◌≤◌, [], ◌∷◌, length, if◌then◌else◌, subst, ap, sym, ◌∙◌}
+use Rattle.std.proofs.Common.{◌≤◌, [], ◌∷◌, length, if◌then◌else◌, subst, ap, sym, ◌∙◌}
 use Rattle.std.specs.List.{after_first}
 use Rattle.vcd_reader.specs.Body.{items}
 use Rattle.vcd_reader.specs.Body.Item.{unfinished}

@@ -1,4 +1,4 @@
-use Rattle.std.proofs.Common.{◌≡◌, ap, sym, ◌∙◌}
+use Rattle.std.proofs.Common.{sym, ◌∙◌}
 use Rattle.vcd_reader.proofs.PlaceLemmas.{both_one, left_alone, lower, names_agree, names_differ, not_false, not_true, parent_kept, right_alone}
 use Rattle.vcd_reader.proofs.place.is_same.Goals as goal
 

@@ -1,4 +1,4 @@
-use Rattle.std.proofs.Common.{◌≡◌, ◌+◌, length}
+use Rattle.std.proofs.Common.{◌≡◌, length}
 use Rattle.vcd_reader.specs.Declares.{IsBelow, path_in, paths_of}
 use Rattle.vcd_reader.specs.Scopes.{same_path}
 use Rattle.vcd_reader.proofs.PlaceLemmas.{height}

@@ -1,4 +1,4 @@
-use Rattle.std.proofs.Common.{◌≡◌, ◌++◌, [], ◌∷◌, false, rules, sym, ◌∙◌}
+use Rattle.std.proofs.Common.{◌≡◌, ◌++◌, [], ◌∷◌, false, rules, ◌∙◌}
 use Rattle.vcd_reader.specs.Sections.{is_end}
 use Rattle.vcd_reader.specs.Tokens.{tok_of}
 use Rattle.vcd_reader.proofs.SectionLemmas.{closed_step, inner_step, rest_step}

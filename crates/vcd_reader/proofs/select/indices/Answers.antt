@@ -1,4 +1,4 @@
-use Rattle.std.proofs.Common.{rules, ◌+◌}
+use Rattle.std.proofs.Common.{◌+◌}
 use Rattle.std.proofs.lemmas.List.{take_rest}
 use Rattle.vcd_reader.proofs.SelectLemmas.{indices_parted, indices_alone}
 use Rattle.vcd_reader.proofs.select.indices.Goals as goal

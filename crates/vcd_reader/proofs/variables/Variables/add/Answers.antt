@@ -1,4 +1,4 @@
-use Rattle.std.proofs.Common.{◌≡◌, Some, None, ap, sym, ◌∙◌}
+use Rattle.std.proofs.Common.{◌≡◌, None, ap, sym, ◌∙◌}
 use Rattle.vcd_reader.specs.Declares.{size_among}
 use Rattle.vcd_reader.proofs.SizeLemmas.{size_added, size_stays}
 use Rattle.vcd_reader.proofs.variables.Variables.add.Goals as goal
