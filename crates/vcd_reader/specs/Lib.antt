@@ -12,6 +12,7 @@ pub mod Said
 pub mod Scopes
 pub mod Sections
 pub mod Sizes
+pub mod Targets
 pub mod Tokens
 pub mod Values
 pub mod Variables

@@ -35,10 +35,13 @@ value_at changes time source = is_one (last_or None (filter_map (given_by time s
 abbrev pub values_at : List Triple → List Source → ℕ → List Bool
 values_at changes sources time = map (value_at changes time) sources
 
--- whether the digit is neither 0 nor 1
+-- whether the digit is `x` or `z`, which is to say neither 0 nor 1
+abbrev pub is_unknown_digit : ℕ → Bool
+is_unknown_digit digit = not (digit == 48 || digit == 49)
+
 abbrev pub is_unknown : Option ℕ → Bool
 is_unknown None = false
-is_unknown (Some digit) = not (digit == 48 || digit == 49)
+is_unknown (Some digit) = is_unknown_digit digit
 
 -- to how many of the bits a change gives `x` or `z`
 abbrev pub unknown_by : List Source → Triple → ℕ

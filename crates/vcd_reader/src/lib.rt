@@ -6,6 +6,7 @@ mod command;
 mod decimal;
 mod declaration;
 mod declarations;
+mod digit;
 mod dotted;
 mod fault;
 mod form;
