@@ -12,3 +12,4 @@ pub mod SectionLemmas
 pub mod SelectLemmas
 pub mod SizeLemmas
 pub mod TokenLemmas
+pub mod WaveformLemmas

@@ -10,9 +10,8 @@ use Rattle.vcd_reader.specs.declared.fault.VcdFault.{VcdFault}
 use Rattle.vcd_reader.specs.declared.fault.VcdFault.TheVariants.{NoScope, NoSignal}
 use Rattle.vcd_reader.specs.declared.select.Select.{Select}
 use Rattle.vcd_reader.specs.declared.select.Select.TheVariants.{Whole, Part, Other}
-use Rattle.vcd_reader.specs.Scopes.{Path, dotted, same_path, scopes}
-use Rattle.vcd_reader.specs.Tokens.{Tok}
-use Rattle.vcd_reader.specs.Variables.{Variable, variables}
+use Rattle.vcd_reader.specs.Scopes.{Path, dotted, same_path}
+use Rattle.vcd_reader.specs.Variables.{Variable}
 
 -- ---- what is wanted
 
@@ -106,8 +105,3 @@ sources_of variables (bit ∷ bits) = with_source bit.name (source_of variables 
 abbrev pub sources_in : List Variable → List Wanted → Option Path → Result (List Source) VcdFault
 sources_in variables bits None = Err NoScope
 sources_in variables bits (Some path) = sources_of (within path variables) bits
-
--- where the wanted bits come from, by the groups of a header, or why that is not known at its end
-abbrev pub matched : List (List Tok) → Labels → Option (List ℕ) → Result (List Source) VcdFault
-matched groups labels scope =
-    sources_in (variables groups) (wanted labels) (scope_for (scopes groups) (variables groups) (wanted labels) scope)

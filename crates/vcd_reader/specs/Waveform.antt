@@ -1,6 +1,6 @@
 -- What bytes are as a waveform (IEEE 1364-2005, clause 18): rows, or the first fault from the left.
 use Rattle.std.specs.Prelude.{ℕ, ◌+◌, ◌*◌, ◌==◌, List, [], ◌∷◌, length, nat_lt, Option, None, Some, Result, Ok, Err, if◌then◌else◌}
-use Rattle.std.specs.Option.{option_or}
+use Rattle.std.specs.Option.{option_map, option_or}
 use Rattle.bm_base.specs.Size.{limit_of}
 use Rattle.bm_base.specs.declared.size.Size.{Size}
 use Rattle.bm_base.specs.declared.size.Size.TheVariants.{Cycles, Bits, States}
@@ -11,13 +11,14 @@ use Rattle.vcd_reader.specs.declared.fault.VcdFault.TheVariants.{Token, Truncate
 use Rattle.vcd_reader.specs.Body.{Item, items}
 use Rattle.vcd_reader.specs.Body.Item.{time, change, misplaced, unfinished}
 use Rattle.vcd_reader.specs.Changes.{all_times, last_time}
+use Rattle.vcd_reader.specs.Declares.{Declared, declared_by_groups, matched_in}
 use Rattle.vcd_reader.specs.Faults.{fault_if, first_fault}
 use Rattle.vcd_reader.specs.Header.{header_fault}
-use Rattle.vcd_reader.specs.Matching.{Source, matched}
+use Rattle.vcd_reader.specs.Matching.{Source}
 use Rattle.vcd_reader.specs.Rows.{Reading, reading}
 use Rattle.vcd_reader.specs.Sections.{body, header}
 use Rattle.vcd_reader.specs.Tokens.{Tok, tokens}
-use Rattle.vcd_reader.specs.Variables.{Variable, size_of, variables}
+use Rattle.vcd_reader.specs.Variables.{Variable, size_of}
 
 -- a change of a code that has this size, if it is declared
 abbrev pub change_fault : ℕ → List ℕ → Option ℕ → Option VcdFault
@@ -35,26 +36,26 @@ item_fault declared before (unfinished at) = Some (Truncated at)
 abbrev pub body_fault : List Variable → List Item → Option VcdFault
 body_fault declared items = option_or (first_fault (item_fault declared) [] items) (fault_if (length (all_times items) == 0) NoTime)
 
+-- the reading, unless there is a fault
+abbrev pub unless : Option VcdFault → Result Reading VcdFault → Result Reading VcdFault
+unless (Some fault) reading = Err fault
+unless None reading = reading
+
 -- what a body is, where the wanted bits come from these sources, the first of which is the clock's
 abbrev pub body_reading : List Variable → List Item → List Source → Result Reading VcdFault
 body_reading declared items [] = Err NoScope
-body_reading declared items (clock ∷ inputs) = by (body_fault declared items)
-  where
-    by : Option VcdFault → Result Reading VcdFault
-    by (Some fault) = Err fault
-    by None = Ok (reading items clock inputs)
+body_reading declared items (clock ∷ inputs) = unless (body_fault declared items) (Ok (reading items clock inputs))
 
--- what comes behind a header that has no fault
-abbrev pub behind_header : List Tok → Result (List Source) VcdFault → Result Reading VcdFault
-behind_header tokens (Err fault) = Err fault
-behind_header tokens (Ok sources) = body_reading (variables (header tokens)) (items (body tokens)) sources
+-- what a body is behind a header that has no fault and declares this
+abbrev pub sourced : List Variable → List Item → Result (List Source) VcdFault → Result Reading VcdFault
+sourced declared items (Err fault) = Err fault
+sourced declared items (Ok sources) = body_reading declared items sources
+
+abbrev pub body_of : Declared → List Item → Labels → Option (List ℕ) → Result Reading VcdFault
+body_of all items labels scope = sourced all.variables items (matched_in all labels scope)
 
 abbrev pub whole_reading : ℕ → List Tok → Labels → Option (List ℕ) → Result Reading VcdFault
-whole_reading size tokens labels scope = by (header_fault size tokens)
-  where
-    by : Option VcdFault → Result Reading VcdFault
-    by (Some fault) = Err fault
-    by None = behind_header tokens (matched (header tokens) labels scope)
+whole_reading size tokens labels scope = unless (header_fault size tokens) (body_of (declared_by_groups (header tokens)) (items (body tokens)) labels scope)
 
 -- what the bytes are for these labels, with the name of a scope or without one
 unfoldable pub waveform : List ℕ → Labels → Option (List ℕ) → Result Reading VcdFault
@@ -71,11 +72,7 @@ limit_passed registers trace =
     else None))
 
 abbrev pub within_limits : ℕ → Reading → Result Reading VcdFault
-within_limits registers reading = by (limit_passed registers reading.trace)
-  where
-    by : Option Size → Result Reading VcdFault
-    by (Some what) = Err (Limit what)
-    by None = Ok reading
+within_limits registers reading = unless (option_map (λ what. Limit what) (limit_passed registers reading.trace)) (Ok reading)
 
 abbrev pub limited : ℕ → Result Reading VcdFault → Result Reading VcdFault
 limited registers (Err fault) = Err fault

@@ -23,7 +23,9 @@ mod source;
 mod token;
 mod variables;
 mod wanted;
+mod waveform;
 
 pub use fault::VcdFault;
 pub use form::Form;
 pub use select::Select;
+pub use waveform::check_vcd;

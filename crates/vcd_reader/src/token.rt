@@ -14,6 +14,7 @@ pub(crate) struct Token<'a> {
 }
 
 /// What is left of a waveform, seen by contracts as its tokens.
+#[derive(Drop)]
 pub(crate) struct Tokens<'a> {
     bytes: &'a [u8],
     at: usize,
