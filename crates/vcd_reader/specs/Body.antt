@@ -62,8 +62,8 @@ coded at digits code = if is_code code.text then change at code.text digits else
 abbrev pub uncoded : Tok → List Item
 uncoded code = if is_code code.text then [] else misplaced code.at ∷ []
 
--- what a body says, token by token: most say something by themselves, a value takes the next token as its code, and a section
--- takes all up to the next `$end`
+-- what a body says, token by token: most say something by themselves, a value takes the next token as its code, and a
+-- section takes all up to the next `$end`
 abbrev mutual
   pub items : List Tok → List Item
   items [] = []

@@ -30,7 +30,8 @@ last_time items = unwrap_or (last_or None (all_times items)) 0
 abbrev pub triples_from : ℕ → List Item → List Triple
 triples_from now [] = []
 triples_from now (time at value ∷ items) = triples_from value items
-triples_from now (change at code digits ∷ items) = record { time = now; code = code; digits = digits } ∷ triples_from now items
+triples_from now (change at code digits ∷ items) =
+    record { time = now; code = code; digits = digits } ∷ triples_from now items
 triples_from now (misplaced at ∷ items) = triples_from now items
 triples_from now (unfinished at ∷ items) = triples_from now items
 

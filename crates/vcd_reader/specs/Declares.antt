@@ -46,7 +46,8 @@ declared_with before first inside = record {
 
 -- where the wanted bits come from, or why that is not known
 abbrev pub matched_in : Declared → Labels → Option (List ℕ) → Result (List Source) VcdFault
-matched_in all labels scope = sources_in all.variables (wanted labels) (scope_for all.scopes all.variables (wanted labels) scope)
+matched_in all labels scope =
+    sources_in all.variables (wanted labels) (scope_for all.scopes all.variables (wanted labels) scope)
 
 -- names as contracts see them
 abbrev pub texts : List (Bor (List ℕ)) → Path
@@ -62,7 +63,8 @@ path_in paths (Some number) = slice_index_or paths number []
 -- scopes, each behind the scope that it stands in, where these come before them
 abbrev pub paths_from : List Path → List Scope → List Path
 paths_from paths [] = paths
-paths_from paths (scope ∷ scopes) = paths_from (paths ++ (path_in paths scope.parent ++ scope.name.now ∷ []) ∷ []) scopes
+paths_from paths (scope ∷ scopes) =
+    paths_from (paths ++ (path_in paths scope.parent ++ scope.name.now ∷ []) ∷ []) scopes
 
 abbrev pub paths_of : List Scope → List Path
 paths_of scopes = paths_from [] scopes
@@ -80,7 +82,8 @@ declares paths declaration = record {
 -- the size with which a code is declared first
 abbrev pub size_among : List Declaration → List ℕ → Option ℕ
 size_among declarations code =
-    option_map (λ (declaration : Declaration). declaration.size) (find (λ declaration. bytes_eq declaration.code.now code) declarations)
+    option_map (λ (declaration : Declaration). declaration.size)
+    (find (λ declaration. bytes_eq declaration.code.now code) declarations)
 
 -- what is declared, as it is kept: the scopes, the number of the open one, and the declarations
 abbrev pub declared_as : List Scope → Option ℕ → List Declaration → Declared

@@ -21,12 +21,20 @@ bus = labels_of (record { name = codes "data"; width = 8; range = Some (record {
 
 -- a header for `wire`
 abbrev pub header_text : List ℕ
-header_text = codes "$scope module top $end $var wire 1 ! clk $end $var wire 1 # a $end $upscope $end $enddefinitions $end "
+header_text =
+    codes "$scope module top $end $var wire 1 ! clk $end $var wire 1 # a $end $upscope $end $enddefinitions $end "
+
+-- a waveform in which `data` is declared by this text, and this is the body
+abbrev pub bus_text : List ℕ → List ℕ → List ℕ
+bus_text name said =
+    codes "$scope m t $end $var wire 1 ! clk $end $var wire 8 $ " ++ name
+    ++ codes " $end $var wire 8 % mem [1][7:0] $end $enddefinitions $end " ++ said
 
 -- rows of this width, and a count of unknown bits
 abbrev pub seen : ℕ → List (List Bool) → ℕ → Result Reading VcdFault
 seen width rows unknown = Ok (record { trace = record { width = width; rows = rows }; unknown = unknown })
 
+-- each example: what the bytes are
 pub record ReadsExamples : Type 0 where
   pub sampled_before : waveform (header_text ++ codes "#0 0! 0# #5 1! 1# #10") wire None
       ≡ seen 1 ((false ∷ []) ∷ (true ∷ []) ∷ []) 0
@@ -61,25 +69,32 @@ pub record ReadsExamples : Type 0 where
   pub another_size : waveform (codes "$var wire 1 ! a $end $var wire 2 ! b $end $enddefinitions $end") wire None
       ≡ Err (BadCode 21)
   pub size_too_great : waveform (codes "$var wire 2147483648 ! a $end $enddefinitions $end") wire None ≡ Err (Token 0)
-  pub no_such_scope : waveform (codes "$scope module top $end $var wire 1 ! clk $end $upscope $end $enddefinitions $end #0") wire None
+  pub no_such_scope : waveform
+      (codes "$scope module top $end $var wire 1 ! clk $end $upscope $end $enddefinitions $end #0") wire None
       ≡ Err NoScope
-  pub no_such_signal : waveform (codes "$scope module top $end $var wire 1 ! clk $end $upscope $end $enddefinitions $end #0") wire (Some (codes "top"))
+  pub no_such_signal : waveform
+      (codes "$scope module top $end $var wire 1 ! clk $end $upscope $end $enddefinitions $end #0") wire
+      (Some (codes "top"))
       ≡ Err (NoSignal (codes "a"))
-  pub inner_scope : waveform (codes "$scope m t $end $scope m u $end $var wire 1 ! clk $end $var wire 1 # a $end $upscope $end $upscope $end $enddefinitions $end #0 1#") wire (Some (codes "t.u"))
+  pub inner_scope : waveform
+      (codes "$scope m t $end $scope m u $end $var wire 1 ! clk $end $var wire 1 # a $end $upscope $end "
+      ++ codes "$upscope $end $enddefinitions $end #0 1#") wire (Some (codes "t.u"))
       ≡ seen 1 ((true ∷ []) ∷ []) 0
-  pub bus_select : waveform (codes "$scope m t $end $var wire 1 ! clk $end $var wire 8 $ data [7:0] $end $var wire 8 % mem [1][7:0] $end $enddefinitions $end #0 b1 $ ") bus None
+  pub bus_select : waveform (bus_text (codes "data [7:0]") (codes "#0 b1 $ ")) bus None
       ≡ seen 8 ((true ∷ false ∷ false ∷ false ∷ false ∷ false ∷ false ∷ false ∷ []) ∷ []) 0
-  pub bus_joined : waveform (codes "$scope m t $end $var wire 1 ! clk $end $var wire 8 $ data[7:0] $end $var wire 8 % mem [1][7:0] $end $enddefinitions $end #0 b1 $ ") bus None
+  pub bus_joined : waveform (bus_text (codes "data[7:0]") (codes "#0 b1 $ ")) bus None
       ≡ seen 8 ((true ∷ false ∷ false ∷ false ∷ false ∷ false ∷ false ∷ false ∷ []) ∷ []) 0
-  pub bus_parted : waveform (codes "$scope m t $end $var wire 1 ! clk $end $var wire 8 $ data [7 : 0] $end $var wire 8 % mem [1][7:0] $end $enddefinitions $end #0 b1 $ ") bus None
+  pub bus_parted : waveform (bus_text (codes "data [7 : 0]") (codes "#0 b1 $ ")) bus None
       ≡ seen 8 ((true ∷ false ∷ false ∷ false ∷ false ∷ false ∷ false ∷ false ∷ []) ∷ []) 0
-  pub bus_whole : waveform (codes "$scope m t $end $var wire 1 ! clk $end $var wire 8 $ data $end $var wire 8 % mem [1][7:0] $end $enddefinitions $end #0 b1 $ ") bus None
+  pub bus_whole : waveform (bus_text (codes "data") (codes "#0 b1 $ ")) bus None
       ≡ seen 8 ((true ∷ false ∷ false ∷ false ∷ false ∷ false ∷ false ∷ false ∷ []) ∷ []) 0
-  pub bus_turned : waveform (codes "$scope m t $end $var wire 1 ! clk $end $var wire 8 $ data [0:7] $end $var wire 8 % mem [1][7:0] $end $enddefinitions $end #0 b1 $ ") bus None
+  pub bus_turned : waveform (bus_text (codes "data [0:7]") (codes "#0 b1 $ ")) bus None
       ≡ seen 8 ((false ∷ false ∷ false ∷ false ∷ false ∷ false ∷ false ∷ true ∷ []) ∷ []) 0
-  pub bus_unknown : waveform (codes "$scope m t $end $var wire 1 ! clk $end $var wire 8 $ data $end $var wire 8 % mem [1][7:0] $end $enddefinitions $end #0 bx1 $ ") bus None
+  pub bus_unknown : waveform (bus_text (codes "data") (codes "#0 bx1 $ ")) bus None
       ≡ seen 8 ((true ∷ false ∷ false ∷ false ∷ false ∷ false ∷ false ∷ false ∷ []) ∷ []) 7
-  pub bus_bits : waveform (codes "$scope m t $end $var wire 1 ! clk $end $var wire 7 $ data [7:1] $end $var wire 1 % data [0] $end $enddefinitions $end #0 b1 $ 0%") bus None
+  pub bus_bits : waveform
+      (codes "$scope m t $end $var wire 1 ! clk $end $var wire 7 $ data [7:1] $end $var wire 1 % data [0] $end "
+      ++ codes "$enddefinitions $end #0 b1 $ 0%") bus None
       ≡ seen 8 ((false ∷ true ∷ false ∷ false ∷ false ∷ false ∷ false ∷ false ∷ []) ∷ []) 0
-  pub bus_narrow : waveform (codes "$scope m t $end $var wire 1 ! clk $end $var wire 8 $ data [6:0] $end $var wire 8 % mem [1][7:0] $end $enddefinitions $end #0 b1 $ ") bus None
+  pub bus_narrow : waveform (bus_text (codes "data [6:0]") (codes "#0 b1 $ ")) bus None
       ≡ Err NoScope

@@ -3,8 +3,8 @@ use Rattle.std.specs.Prelude.{List, [], ◌∷◌, ◌++◌, Option, None, Some,
 use Rattle.std.specs.Option.{option_or}
 use Rattle.vcd_reader.specs.declared.fault.VcdFault.{VcdFault}
 
--- the fault of the first item that has one, where what is a fault of an item is told by the items before it: these, and those
--- of the list that it stands behind
+-- the fault of the first item that has one, where what is a fault of an item is told by the items before it: these,
+-- and those of the list that it stands behind
 abbrev pub first_fault : {X : Type 0} → (List X → X → Option VcdFault) → List X → List X → Option VcdFault
 first_fault fault before [] = None
 first_fault fault before (item ∷ items) = option_or (fault before item) (first_fault fault (before ++ item ∷ []) items)

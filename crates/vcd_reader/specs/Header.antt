@@ -22,18 +22,22 @@ clashes (Some other) size = not (other == size)
 -- a declaration breaks its form, or declares a code with another size
 abbrev pub declaration_fault : List Variable → ℕ → Option Variable → Option VcdFault
 declaration_fault earlier at None = Some (Token at)
-declaration_fault earlier at (Some variable) = fault_if (clashes (size_of earlier variable.code) variable.size) (BadCode at)
+declaration_fault earlier at (Some variable) =
+    fault_if (clashes (size_of earlier variable.code) variable.size) (BadCode at)
 
--- the fault of a whole section: its first token and those between that and its `$end`, behind these variables, in this scope
+-- the fault of a whole section: its first token and those between that and its `$end`, behind these variables, in
+-- this scope
 abbrev pub form_fault : List Variable → Path → Tok → List Tok → Option VcdFault
 form_fault earlier path first inside =
     if is_word (codes "$scope") first then fault_if (not (length inside == 2)) (Token first.at)
-    else (if is_word (codes "$upscope") first then option_or (fault_if (not (length inside == 0)) (Token first.at)) (fault_if (length path == 0) (Token first.at))
+    else (if is_word (codes "$upscope") first
+    then option_or (fault_if (not (length inside == 0)) (Token first.at))
+    (fault_if (length path == 0) (Token first.at))
     else (if is_word (codes "$var") first then declaration_fault earlier first.at (declared_by path inside)
     else None))
 
--- the fault of a group, behind these variables, in this scope: no section begins there, it has no end, or it is whole and has
--- a fault
+-- the fault of a group, behind these variables, in this scope: no section begins there, it has no end, or it is whole
+-- and has a fault
 abbrev pub fault_within : List Variable → Path → List Tok → Option VcdFault
 fault_within earlier path [] = None
 fault_within earlier path (first ∷ rest) =
@@ -48,4 +52,5 @@ group_fault before group = fault_within (variables before) (scope_of before) gro
 
 -- the first fault of the header's sections, and that the file of this length ends before the header does
 abbrev pub header_fault : ℕ → List Tok → Option VcdFault
-header_fault size tokens = option_or (first_fault group_fault [] (header tokens)) (fault_if (not (has_header_end tokens)) (Truncated size))
+header_fault size tokens =
+    option_or (first_fault group_fault [] (header tokens)) (fault_if (not (has_header_end tokens)) (Truncated size))

@@ -25,10 +25,12 @@ pub record Wanted : Type 0 where
 -- the index of a position: it is counted from the right end of the range; without a range it is the position
 abbrev pub index_at : Option Range → ℕ → ℕ
 index_at None position = position
-index_at (Some range) position = if nat_le range.right range.left then range.right + position else range.right - position
+index_at (Some range) position =
+    if nat_le range.right range.left then range.right + position else range.right - position
 
 abbrev pub port_bit : PortLabel → ℕ → Wanted
-port_bit port position = record { name = port.name; width = port.width; index = index_at port.range position; position = position }
+port_bit port position =
+    record { name = port.name; width = port.width; index = index_at port.range position; position = position }
 
 -- the bits of a port, from its right end
 abbrev pub port_bits : PortLabel → List Wanted
@@ -57,11 +59,13 @@ distance left right = max left right - min left right
 abbrev pub holds : Range → ℕ → Bool
 holds range index = nat_le (min range.left range.right) index && nat_le index (max range.left range.right)
 
--- which digit of a variable is the bit: by its position where the variable is the whole signal; by its index where a select has
--- the index, and is as wide as the variable
+-- which digit of a variable is the bit: by its position where the variable is the whole signal; by its index where a
+-- select has the index, and is as wide as the variable
 abbrev pub digit_by : Select → ℕ → Wanted → Option ℕ
 digit_by Whole size bit = if size == bit.width then Some bit.position else None
-digit_by (Part range) size bit = if holds range bit.index && distance range.left range.right + 1 == size then Some (distance bit.index range.right) else None
+digit_by (Part range) size bit =
+    if holds range bit.index && distance range.left range.right + 1 == size then Some (distance bit.index range.right)
+    else None
 digit_by Other size bit = None
 
 abbrev pub source_at : List ℕ → ℕ → Source
@@ -70,7 +74,8 @@ source_at code digit = record { code = code; digit = digit }
 -- the bit, where the variable has the signal's name and gives it
 abbrev pub source_by : Variable → Wanted → Option Source
 source_by variable bit =
-    if bytes_eq variable.name bit.name then option_map (source_at variable.code) (digit_by variable.select variable.size bit) else None
+    if bytes_eq variable.name bit.name
+    then option_map (source_at variable.code) (digit_by variable.select variable.size bit) else None
 
 -- the first declared that gives the bit
 abbrev pub source_of : List Variable → Wanted → Option Source

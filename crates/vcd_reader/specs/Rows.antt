@@ -22,7 +22,8 @@ sampled changes clock times = map (λ (step : ℕ × ℕ). step.0) (filter (is_e
 
 -- a row for each edge, at the end of the time before it, and one at the end of the file
 abbrev pub rows_by : List Triple → Source → List Source → List ℕ → ℕ → List (List Bool)
-rows_by changes clock inputs times last = map (values_at changes inputs) (sampled changes clock times) ++ values_at changes inputs last ∷ []
+rows_by changes clock inputs times last =
+    map (values_at changes inputs) (sampled changes clock times) ++ values_at changes inputs last ∷ []
 
 -- a waveform's rows, and how many bits were given as `x` or `z`
 pub record Reading : Type 0 where

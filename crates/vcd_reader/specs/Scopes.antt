@@ -51,7 +51,8 @@ scope_of groups = fold scope_after [] groups
 abbrev pub opened_from : Path → List (List Tok) → List Path
 opened_from path [] = []
 opened_from path (group ∷ groups) =
-    (if begins_with (codes "$scope") group then scope_after path group ∷ [] else []) ++ opened_from (scope_after path group) groups
+    (if begins_with (codes "$scope") group then scope_after path group ∷ [] else []) ++ opened_from
+    (scope_after path group) groups
 
 abbrev pub scopes : List (List Tok) → List Path
 scopes groups = opened_from [] groups

@@ -19,8 +19,8 @@ is_blank byte = byte == 32 || is_in_range 9 13 byte
 abbrev pub is_ink : ℕ → Bool
 is_ink byte = not (is_blank byte)
 
--- the tokens with one more byte in front: it belongs to the token that starts directly after it, if one does, and else is a
--- token by itself
+-- the tokens with one more byte in front: it belongs to the token that starts directly after it, if one does, and
+-- else is a token by itself
 abbrev pub with_byte : ℕ → ℕ → List Tok → List Tok
 with_byte at byte [] = record { at = at; text = byte ∷ [] } ∷ []
 with_byte at byte (token ∷ tokens) =
@@ -30,7 +30,8 @@ with_byte at byte (token ∷ tokens) =
 -- the tokens of the bytes that start at this place
 abbrev pub tokens_from : ℕ → List ℕ → List Tok
 tokens_from at [] = []
-tokens_from at (byte ∷ bytes) = if is_blank byte then tokens_from (at + 1) bytes else with_byte at byte (tokens_from (at + 1) bytes)
+tokens_from at (byte ∷ bytes) =
+    if is_blank byte then tokens_from (at + 1) bytes else with_byte at byte (tokens_from (at + 1) bytes)
 
 abbrev pub tokens : List ℕ → List Tok
 tokens bytes = tokens_from 0 bytes

@@ -12,11 +12,13 @@ extension digit = if digit == 48 || digit == 49 then 48 else digit
 -- the digit at a position from the right end
 abbrev pub digit_at : List ℕ → ℕ → ℕ
 digit_at digits position =
-    if nat_lt position (length digits) then slice_index digits (length digits - (position + 1)) else extension (slice_index digits 0)
+    if nat_lt position (length digits) then slice_index digits (length digits - (position + 1))
+    else extension (slice_index digits 0)
 
 -- the digit that a change gives to a bit, if it gives one
 abbrev pub digit_given : Source → Triple → Option ℕ
-digit_given source change = if bytes_eq change.code source.code then Some (digit_at change.digits source.digit) else None
+digit_given source change =
+    if bytes_eq change.code source.code then Some (digit_at change.digits source.digit) else None
 
 -- the same, where the change comes at this time or before it
 abbrev pub given_by : ℕ → Source → Triple → Option ℕ

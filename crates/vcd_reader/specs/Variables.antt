@@ -34,14 +34,16 @@ is_colon byte = byte == 58
 -- the range between brackets: `m:l`, or `i`, which is `i:i`
 abbrev pub indices : List ℕ → Option Range
 indices text =
-    if list_any is_colon text then range_of (small_number (before_first is_colon text)) (small_number (after_first is_colon text))
+    if list_any is_colon text
+    then range_of (small_number (before_first is_colon text)) (small_number (after_first is_colon text))
     else range_of (small_number text) (small_number text)
 
 -- the range of a select: `[`, indices and `]`
 abbrev pub select_of : List ℕ → Option Range
 select_of [] = None
 select_of (byte ∷ bytes) =
-    if byte == 91 && not (length bytes == 0) && slice_index bytes (length bytes - 1) == 93 then indices (take (length bytes - 1) bytes) else None
+    if byte == 91 && not (length bytes == 0) && slice_index bytes (length bytes - 1) == 93
+    then indices (take (length bytes - 1) bytes) else None
 
 -- what the joined further tokens of a declaration say
 abbrev pub select_by : Option Range → Select
@@ -73,7 +75,8 @@ named_alone (byte ∷ bytes) =
 -- the name and the select of a name's token and of the texts of further tokens
 abbrev pub name_and_select : List ℕ → List Tok → List ℕ × Select
 name_and_select name [] = named_alone name
-name_and_select name (token ∷ tokens) = (without_backslash name, select_by (select_of (flat_map (λ (further : Tok). further.text) (token ∷ tokens))))
+name_and_select name (token ∷ tokens) =
+    (without_backslash name, select_by (select_of (flat_map (λ (further : Tok). further.text) (token ∷ tokens))))
 
 -- ---- declarations
 
@@ -84,10 +87,12 @@ is_code text = list_all is_ascii_graphic text
 abbrev pub variable_of : Path → Tok → List ℕ × Select → ℕ → Variable
 variable_of path code name size = record { path = path; name = name.0; select = name.1; size = size; code = code.text }
 
--- the variable that a `$var` with these tokens declares, if they have the form: a type, a size, a code, a name and further tokens
+-- the variable that a `$var` with these tokens declares, if they have the form: a type, a size, a code, a name and
+-- further tokens
 abbrev pub declared_by : Path → List Tok → Option Variable
 declared_by path (kind ∷ size ∷ code ∷ name ∷ further) =
-    if is_code code.text then option_map (variable_of path code (name_and_select name.text further)) (small_number size.text) else None
+    if is_code code.text then option_map (variable_of path code (name_and_select name.text further))
+    (small_number size.text) else None
 declared_by path other = None
 
 -- the variable of a section with this first token and these up to its `$end`, in this scope
@@ -113,4 +118,5 @@ variables groups = declared_from [] groups
 
 -- the size with which a code was declared first
 abbrev pub size_of : List Variable → List ℕ → Option ℕ
-size_of variables code = option_map (λ (variable : Variable). variable.size) (find (λ variable. bytes_eq variable.code code) variables)
+size_of variables code =
+    option_map (λ (variable : Variable). variable.size) (find (λ variable. bytes_eq variable.code code) variables)

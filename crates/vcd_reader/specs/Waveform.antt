@@ -34,7 +34,8 @@ item_fault declared before (unfinished at) = Some (Truncated at)
 
 -- the first fault of a body, and at its end that it has no time
 abbrev pub body_fault : List Variable → List Item → Option VcdFault
-body_fault declared items = option_or (first_fault (item_fault declared) [] items) (fault_if (length (all_times items) == 0) NoTime)
+body_fault declared items =
+    option_or (first_fault (item_fault declared) [] items) (fault_if (length (all_times items) == 0) NoTime)
 
 -- the reading, unless there is a fault
 abbrev pub unless : Option VcdFault → Result Reading VcdFault → Result Reading VcdFault
@@ -55,7 +56,8 @@ abbrev pub body_of : Declared → List Item → Labels → Option (List ℕ) →
 body_of all items labels scope = sourced all.variables items (matched_in all labels scope)
 
 abbrev pub whole_reading : ℕ → List Tok → Labels → Option (List ℕ) → Result Reading VcdFault
-whole_reading size tokens labels scope = unless (header_fault size tokens) (body_of (declared_by_groups (header tokens)) (items (body tokens)) labels scope)
+whole_reading size tokens labels scope =
+    unless (header_fault size tokens) (body_of (declared_by_groups (header tokens)) (items (body tokens)) labels scope)
 
 -- what the bytes are for these labels, with the name of a scope or without one
 unfoldable pub waveform : List ℕ → Labels → Option (List ℕ) → Result Reading VcdFault
@@ -63,7 +65,8 @@ waveform bytes labels scope = whole_reading (length bytes) (tokens bytes) labels
 
 -- ---- the limits
 
--- the first limit that a trace passes, by its rows, the bits of its rows, and the bits of the states of so many registers
+-- the first limit that a trace passes, by its rows, the bits of its rows, and the bits of the states of so many
+-- registers
 abbrev pub limit_passed : ℕ → Rows → Option Size
 limit_passed registers trace =
     if nat_lt (limit_of Cycles) (length trace.rows) then Some Cycles
@@ -72,7 +75,8 @@ limit_passed registers trace =
     else None))
 
 abbrev pub within_limits : ℕ → Reading → Result Reading VcdFault
-within_limits registers reading = unless (option_map (λ what. Limit what) (limit_passed registers reading.trace)) (Ok reading)
+within_limits registers reading =
+    unless (option_map (λ what. Limit what) (limit_passed registers reading.trace)) (Ok reading)
 
 abbrev pub limited : ℕ → Result Reading VcdFault → Result Reading VcdFault
 limited registers (Err fault) = Err fault

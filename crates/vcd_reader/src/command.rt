@@ -16,7 +16,8 @@ use std::alloc::Global;
 
 /// Whether the section that the token begins opens or closes a scope or declares a variable.
 pub(crate) fn is_command(first: Token) -> bool
-    ensures { result ≡ (is_word (codes "$scope") (tok_of first.entry) || is_word (codes "$upscope") (tok_of first.entry) || is_word (codes "$var") (tok_of first.entry)) }
+    ensures { result ≡ (is_word (codes "$scope") (tok_of first.entry) || is_word (codes "$upscope")
+        (tok_of first.entry) || is_word (codes "$var") (tok_of first.entry)) }
 {
     first.text == b"$scope".as_slice()
         || first.text == b"$upscope".as_slice()
@@ -30,9 +31,14 @@ pub(crate) fn take_command<'a>(
     first: Token<'a>,
     inside: &[Token<'a>],
 ) -> Result<(), VcdFault>
-    ensures faultless { OnOk result (form_fault declarations.old.variables declarations.old.path (tok_of first.entry) (map tok_of inside.now) ≡ None) }
-    ensures declared { OnOk result (declarations.new ≡ declared_with declarations.old (tok_of first.entry) (map tok_of inside.now)) }
-    ensures fault { IfErr result (λ fault. (form_fault declarations.old.variables declarations.old.path (tok_of first.entry) (map tok_of inside.now) ≡ Some fault) ⊎ (fault ≡ Memory)) }
+    ensures faultless { OnOk result
+        (form_fault declarations.old.variables declarations.old.path (tok_of first.entry) (map tok_of inside.now)
+        ≡ None) }
+    ensures declared { OnOk result
+        (declarations.new ≡ declared_with declarations.old (tok_of first.entry) (map tok_of inside.now)) }
+    ensures fault { IfErr result
+        (λ fault. (form_fault declarations.old.variables declarations.old.path (tok_of first.entry)
+        (map tok_of inside.now) ≡ Some fault) ⊎ (fault ≡ Memory)) }
 {
     let at = first.at;
     if first.text == b"$scope".as_slice() {
@@ -56,7 +62,8 @@ fn take_scope<'a>(
       path = scope_within declarations.old.path (map tok_of inside.now);
       scopes = declarations.old.scopes ++ scope_within declarations.old.path (map tok_of inside.now) ∷ [];
     }) }
-    ensures fault { IfErr result (λ fault. (fault_if (not (length (map tok_of inside.now) == 2)) (Form at) ≡ Some fault) ⊎ (fault ≡ Memory)) }
+    ensures fault { IfErr result
+        (λ fault. (fault_if (not (length (map tok_of inside.now) == 2)) (Form at) ≡ Some fault) ⊎ (fault ≡ Memory)) }
 {
     if inside.len() != 2 {
         return Err(VcdFault::Token { at });
@@ -66,9 +73,13 @@ fn take_scope<'a>(
 }
 
 fn take_upscope(declarations: &mut Declarations, at: u64, inside: &[Token]) -> Result<(), VcdFault>
-    ensures faultless { OnOk result (option_or (fault_if (not (length (map tok_of inside.now) == 0)) (Form at)) (fault_if (length declarations.old.path == 0) (Form at)) ≡ None) }
+    ensures faultless { OnOk result
+        (option_or (fault_if (not (length (map tok_of inside.now) == 0)) (Form at))
+        (fault_if (length declarations.old.path == 0) (Form at)) ≡ None) }
     ensures closed { OnOk result (declarations.new ≡ record declarations.old { path = parent declarations.old.path }) }
-    ensures fault { IfErr result (λ fault. (option_or (fault_if (not (length (map tok_of inside.now) == 0)) (Form at)) (fault_if (length declarations.old.path == 0) (Form at)) ≡ Some fault)) }
+    ensures fault { IfErr result
+        (λ fault. (option_or (fault_if (not (length (map tok_of inside.now) == 0)) (Form at))
+        (fault_if (length declarations.old.path == 0) (Form at)) ≡ Some fault)) }
 {
     if !inside.is_empty() || declarations.is_top() {
         return Err(VcdFault::Token { at });

@@ -21,7 +21,8 @@ pub(crate) fn number_up_to(most: u64, text: &[u8]) -> Option<u64>
 
 // The number with one more digit behind it, if it is one of at most this much.
 fn with_digit(most: u64, value: u64, digit: u8) -> Option<u64>
-    ensures { result ≡ (if is_ascii_digit digit && nat_le (10 * value + (digit - 48)) most then Some (10 * value + (digit - 48)) else None) }
+    ensures { result ≡ (if is_ascii_digit digit && nat_le (10 * value + (digit - 48)) most
+        then Some (10 * value + (digit - 48)) else None) }
 {
     if !digit.is_ascii_digit() {
         return None;

@@ -30,7 +30,9 @@ pub(crate) fn declared_by<'a>(
     tokens: &[Token<'a>],
 ) -> Result<Option<Declaration<'a>>, NoMemory>
     ensures scope { IfOk result (λ declaration. IfSome declaration (λ declaration. declaration.scope ≡ scope)) }
-    ensures declares { IfOk result (λ declaration. (paths : List Path) → option_map (declares paths) declaration ≡ declared_by (path_in paths scope) (map tok_of tokens.now)) }
+    ensures declares { IfOk result
+        (λ declaration. (paths : List Path) → option_map (declares paths) declaration
+        ≡ declared_by (path_in paths scope) (map tok_of tokens.now)) }
 {
     if tokens.len() < 4 {
         return Ok(None);

@@ -68,7 +68,12 @@ impl<'a> Declarations<'a> {
 
     /// Opens a scope within the open one.
     pub(crate) fn open(&mut self, name: &'a [u8]) -> Result<(), NoMemory>
-        ensures { OnOk result (self.new ≡ record self.old { path = self.old.path ++ name.now ∷ []; scopes = self.old.scopes ++ (self.old.path ++ name.now ∷ []) ∷ [] }) }
+        ensures { OnOk result (self.new
+            ≡ record self.old {
+              path = self.old.path ++ name.now ∷ [];
+              scopes = self.old.scopes ++
+                  (self.old.path ++ name.now ∷ []) ∷ [];
+            }) }
     {
         let number = self.scopes.len();
         self.scopes.push(Scope {
@@ -132,9 +137,16 @@ impl<'a> Declarations<'a> {
         at: u64,
         tokens: &[Token<'a>],
     ) -> Result<(), VcdFault>
-        ensures fits { OnOk result (declaration_fault self.old.variables at (declared_by self.old.path (map tok_of tokens.now)) ≡ None) }
-        ensures declared { OnOk result (self.new ≡ record self.old { variables = self.old.variables ++ one_or_none (declared_by self.old.path (map tok_of tokens.now)) }) }
-        ensures fault { IfErr result (λ fault. (declaration_fault self.old.variables at (declared_by self.old.path (map tok_of tokens.now)) ≡ Some fault) ⊎ (fault ≡ Memory)) }
+        ensures fits { OnOk result
+            (declaration_fault self.old.variables at (declared_by self.old.path (map tok_of tokens.now)) ≡ None) }
+        ensures declared { OnOk result
+            (self.new ≡ record self.old {
+              variables = self.old.variables ++ one_or_none
+                  (declared_by self.old.path (map tok_of tokens.now));
+            }) }
+        ensures fault { IfErr result
+            (λ fault. (declaration_fault self.old.variables at (declared_by self.old.path (map tok_of tokens.now))
+            ≡ Some fault) ⊎ (fault ≡ Memory)) }
     {
         let Some(declaration) = declared_by(alloc, self.inmost, tokens)? else {
             return Err(VcdFault::Token { at });

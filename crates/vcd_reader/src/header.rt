@@ -42,11 +42,16 @@ fn take_group<'a>(
     first: Token<'a>,
     tokens: &mut Tokens<'a>,
 ) -> Result<bool, VcdFault>
-    ensures faultless { OnOk result (fault_within declarations.old.variables declarations.old.path (tok_of first.entry ∷ group_rest tokens.old) ≡ None) }
-    ensures declared { OnOk result (declarations.new ≡ declared_behind declarations.old (tok_of first.entry ∷ group_rest tokens.old)) }
+    ensures faultless { OnOk result
+        (fault_within declarations.old.variables declarations.old.path (tok_of first.entry ∷ group_rest tokens.old)
+        ≡ None) }
+    ensures declared { OnOk result
+        (declarations.new ≡ declared_behind declarations.old (tok_of first.entry ∷ group_rest tokens.old)) }
     ensures rest { OnOk result (tokens.new ≡ after_first is_end tokens.old) }
     ensures last { IfOk result (λ last. last ≡ ends_header (tok_of first.entry ∷ group_rest tokens.old)) }
-    ensures fault { IfErr result (λ fault. (fault_within declarations.old.variables declarations.old.path (tok_of first.entry ∷ group_rest tokens.old) ≡ Some fault) ⊎ (fault ≡ Memory)) }
+    ensures fault { IfErr result
+        (λ fault. (fault_within declarations.old.variables declarations.old.path
+        (tok_of first.entry ∷ group_rest tokens.old) ≡ Some fault) ⊎ (fault ≡ Memory)) }
 {
     let at = first.at;
     if is_end(first) || !begins_section(first.text) {

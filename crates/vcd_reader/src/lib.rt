@@ -1,4 +1,5 @@
-//! Waveforms are read (IEEE 1364-2005, clause 18): what a value change dump says of the inputs in each cycle, and where it is none.
+//! Waveforms are read (IEEE 1364-2005, clause 18): what a value change dump says of the inputs in each cycle, and
+//! where it is none.
 #![tactic(auto)]
 
 mod body;

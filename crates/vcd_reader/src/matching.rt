@@ -24,8 +24,10 @@ pub(crate) fn matched<'a>(
     labels: &Labels,
     scope: Option<&str>,
 ) -> Result<Vec<BitSource<'a>>, VcdFault>
-    ensures ok { IfOk result (λ sources. matched_in declarations.now labels.now (option_copied scope.entry) ≡ Ok (map source_shown sources.items)) }
-    ensures err { IfErr result (λ fault. (matched_in declarations.now labels.now (option_copied scope.entry) ≡ Err fault) ⊎ (fault ≡ Memory)) }
+    ensures ok { IfOk result (λ sources. matched_in declarations.now labels.now (option_copied scope.entry)
+        ≡ Ok (map source_shown sources.items)) }
+    ensures err { IfErr result
+        (λ fault. (matched_in declarations.now labels.now (option_copied scope.entry) ≡ Err fault) ⊎ (fault ≡ Memory)) }
 {
     let bits = wanted(alloc, labels)?;
     match scope_for(alloc, declarations, &bits, scope)? {
@@ -41,8 +43,10 @@ fn scope_for(
     bits: &[WantedBit],
     scope: Option<&str>,
 ) -> Result<Option<usize>, NoMemory>
-    ensures scope { IfOk result (λ number. option_map (λ number. slice_index_or declarations.now.scopes number []) number
-        ≡ scope_for declarations.now.scopes declarations.now.variables (map wanted_of bits.now) (option_copied scope.entry)) }
+    ensures scope { IfOk result
+        (λ number. option_map (λ number. slice_index_or declarations.now.scopes number []) number
+        ≡ scope_for declarations.now.scopes declarations.now.variables (map wanted_of bits.now)
+        (option_copied scope.entry)) }
     ensures there { IfOk result (λ number. IfSome number (λ number. number < length declarations.now.scopes)) }
 {
     match scope {
@@ -57,7 +61,8 @@ fn named_scope(
     declarations: &Declarations,
     name: &str,
 ) -> Result<Option<usize>, NoMemory>
-    ensures scope { IfOk result (λ number. option_map (λ number. slice_index_or declarations.now.scopes number []) number
+    ensures scope { IfOk result
+        (λ number. option_map (λ number. slice_index_or declarations.now.scopes number []) number
         ≡ find (λ path. bytes_eq (dotted path) name.now) declarations.now.scopes) }
     ensures there { IfOk result (λ number. IfSome number (λ number. number < length declarations.now.scopes)) }
 {
@@ -86,7 +91,8 @@ fn full_scope(declarations: &Declarations, bits: &[WantedBit]) -> Option<usize>
 // Whether the scope directly gives every bit.
 fn gives_all(declarations: &Declarations, bits: &[WantedBit], number: usize) -> bool
     requires { number < length declarations.now.scopes }
-    ensures { result ≡ gives_all declarations.now.variables (map wanted_of bits.now) (slice_index_or declarations.now.scopes number []) }
+    ensures { result ≡ gives_all declarations.now.variables (map wanted_of bits.now)
+        (slice_index_or declarations.now.scopes number []) }
 {
     for bit in bits {
         match declarations.source_of(number, bit) {
@@ -106,9 +112,11 @@ fn sources_in<'a>(
 ) -> Result<Vec<BitSource<'a>>, VcdFault>
     requires { number < length declarations.now.scopes }
     ensures ok { IfOk result (λ sources.
-        sources_of (within (slice_index_or declarations.now.scopes number []) declarations.now.variables) (map wanted_of bits.now) ≡ Ok (map source_shown sources.items)) }
+        sources_of (within (slice_index_or declarations.now.scopes number []) declarations.now.variables)
+        (map wanted_of bits.now) ≡ Ok (map source_shown sources.items)) }
     ensures err { IfErr result (λ fault.
-        (sources_of (within (slice_index_or declarations.now.scopes number []) declarations.now.variables) (map wanted_of bits.now) ≡ Err fault) ⊎ (fault ≡ Memory)) }
+        (sources_of (within (slice_index_or declarations.now.scopes number []) declarations.now.variables)
+        (map wanted_of bits.now) ≡ Err fault) ⊎ (fault ≡ Memory)) }
 {
     let mut sources = Vec::new(alloc);
     for bit in bits {

@@ -22,7 +22,8 @@ pub(crate) fn source_among<'a>(
     requires there { number < length scopes.now }
     requires kept { All (λ declaration. IsBelow (length scopes.now) declaration.scope) declarations.now }
     ensures { option_map source_shown result
-        ≡ source_of (within (path_in (paths_of scopes.now) (Some number)) (map (declares (paths_of scopes.now)) declarations.now)) (wanted_of bit.now) }
+        ≡ source_of (within (path_in (paths_of scopes.now) (Some number))
+        (map (declares (paths_of scopes.now)) declarations.now)) (wanted_of bit.now) }
 {
     for declaration in declarations {
         if let Some(source) = source_here(scopes, declaration, number, bit) {
@@ -43,7 +44,8 @@ fn source_here<'a>(
     requires there { number < length scopes.now }
     requires kept { IsBelow (length scopes.now) declaration.now.scope }
     ensures { option_map source_shown result
-        ≡ (if same_path (path_in (paths_of scopes.now) declaration.now.scope) (path_in (paths_of scopes.now) (Some number))
+        ≡ (if same_path (path_in (paths_of scopes.now) declaration.now.scope)
+        (path_in (paths_of scopes.now) (Some number))
         then source_by (declares (paths_of scopes.now) declaration.now) (wanted_of bit.now) else None) }
 {
     match source_by(declaration, bit) {

@@ -30,7 +30,8 @@ impl<'a> Sizes<'a> {
     /// Gives the code this size.
     pub(crate) fn insert(&mut self, code: &'a [u8], size: u32) -> Result<(), NoMemory>
         ensures err { OnErr result ((other : List ℕ) → size_in self.new other ≡ size_in self.old other) }
-        ensures ok { OnOk result ((other : List ℕ) → size_in self.new other ≡ (if bytes_eq code.now other then Some size else size_in self.old other)) }
+        ensures ok { OnOk result ((other : List ℕ) → size_in self.new other
+            ≡ (if bytes_eq code.now other then Some size else size_in self.old other)) }
     {
         self.sizes.insert(code, size)?;
         Ok(())

@@ -21,7 +21,8 @@ pub(crate) struct BitSource<'a> {
 
 /// The bit, where the variable has the signal's name and gives it.
 pub(crate) fn source_by<'a>(declaration: &Declaration<'a>, bit: &WantedBit) -> Option<BitSource<'a>>
-    ensures { (paths : List Path) → option_map source_shown result ≡ source_by (declares paths declaration.now) (wanted_of bit.now) }
+    ensures { (paths : List Path) → option_map source_shown result
+        ≡ source_by (declares paths declaration.now) (wanted_of bit.now) }
 {
     if declaration.name != bit.name {
         return None;
@@ -53,7 +54,8 @@ fn digit_by(select: Select, size: u32, bit: &WantedBit) -> Option<u64>
 }
 
 fn digit_of_part(range: Range, size: u32, index: u64) -> Option<u64>
-    ensures { result ≡ (if holds range index && distance range.left range.right + 1 == size then Some (distance index range.right) else None) }
+    ensures { result ≡ (if holds range index && distance range.left range.right + 1 == size
+        then Some (distance index range.right) else None) }
 {
     let left = u64::from(range.left);
     let right = u64::from(range.right);

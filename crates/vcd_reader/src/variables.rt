@@ -24,7 +24,8 @@ impl<'a> Model for Variables<'a> {
 
     ghost view = { λ variables. variables.list.items };
 
-    ghost invariant = { λ variables. (code : List ℕ) → size_in variables.sizes code ≡ size_among variables.list.items code };
+    ghost invariant = { λ variables. (code : List ℕ) → size_in variables.sizes code
+        ≡ size_among variables.list.items code };
 }
 
 impl<'a> Variables<'a> {

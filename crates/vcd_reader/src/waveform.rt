@@ -13,8 +13,8 @@ use crate::token::Tokens;
 use std::alloc::Global;
 use trace_rows::Labels;
 
-/// Whether the bytes are a waveform of these labels, in the scope of this name or, without one, in the first scope that gives
-/// every bit: if not, the first fault from the left.
+/// Whether the bytes are a waveform of these labels, in the scope of this name or, without one, in the first scope
+/// that gives every bit: if not, the first fault from the left.
 pub fn check_vcd(
     alloc: Global,
     bytes: &[u8],
@@ -22,7 +22,8 @@ pub fn check_vcd(
     scope: Option<&str>,
 ) -> Result<(), VcdFault>
     ensures accepted { OnOk result (IsOk (waveform bytes.now labels.now (option_copied scope.entry))) }
-    ensures refused { IfErr result (λ fault. (waveform bytes.now labels.now (option_copied scope.entry) ≡ Err fault) ⊎ (fault ≡ Memory)) }
+    ensures refused { IfErr result
+        (λ fault. (waveform bytes.now labels.now (option_copied scope.entry) ≡ Err fault) ⊎ (fault ≡ Memory)) }
 {
     let mut tokens = Tokens::new(bytes);
     match header(alloc, bytes.len() as u64, &mut tokens) {
@@ -39,8 +40,11 @@ fn check_behind(
     labels: &Labels,
     scope: Option<&str>,
 ) -> Result<(), VcdFault>
-    ensures accepted { OnOk result (IsOk (body_of declarations.now (items tokens.old) labels.now (option_copied scope.entry))) }
-    ensures refused { IfErr result (λ fault. (body_of declarations.now (items tokens.old) labels.now (option_copied scope.entry) ≡ Err fault) ⊎ (fault ≡ Memory)) }
+    ensures accepted { OnOk result
+        (IsOk (body_of declarations.now (items tokens.old) labels.now (option_copied scope.entry))) }
+    ensures refused { IfErr result
+        (λ fault. (body_of declarations.now (items tokens.old) labels.now (option_copied scope.entry) ≡ Err fault)
+        ⊎ (fault ≡ Memory)) }
 {
     match matched(alloc, declarations, labels, scope) {
         Ok(_) => check_body(declarations, tokens),
