@@ -12,4 +12,5 @@ pub mod SectionLemmas
 pub mod SelectLemmas
 pub mod SizeLemmas
 pub mod TokenLemmas
+pub mod ValueLemmas
 pub mod WaveformLemmas

@@ -1,5 +1,5 @@
 -- The rows of a waveform.
-use Rattle.std.specs.Prelude.{ℕ, ◌&&◌, not, Bool, List, [], ◌∷◌, ◌++◌, length, map}
+use Rattle.std.specs.Prelude.{◌≡◌, ℕ, ◌&&◌, not, Bool, List, [], ◌∷◌, ◌++◌, length, map, if◌then◌else◌}
 use Rattle.std.specs.List.{filter, zip}
 use Rattle.trace_rows.specs.Rows.{Rows}
 use Rattle.vcd_reader.specs.Body.{Item}
@@ -36,3 +36,10 @@ reading items clock inputs = record {
   trace = record { width = length inputs; rows = rows_by (triples items) clock inputs (times items) (last_time items) };
   unknown = unknown_count (triples items) (clock ∷ inputs);
 }
+
+-- One more time adds a row's time where the clock rises to it, and nothing else.
+abbrev pub EdgesGrow : Type 0
+EdgesGrow =
+    (changes : List Triple) (clock : Source) (times : List ℕ) (before now : ℕ)
+    → sampled changes clock (times ++ before ∷ now ∷ [])
+    ≡ sampled changes clock (times ++ before ∷ []) ++ (if is_edge changes clock (before, now) then before ∷ [] else [])

@@ -1,5 +1,5 @@
 -- The values of bits.
-use Rattle.std.specs.Prelude.{ℕ, ◌+◌, ◌-◌, ◌==◌, ◌||◌, not, Bool, false, List, length, map, nat_le, nat_lt, slice_index, Option, None, Some, if◌then◌else◌}
+use Rattle.std.specs.Prelude.{◌≡◌, ◌<◌, ◌≤◌, ◌++◌, ◌∷◌, [], ℕ, ◌+◌, ◌-◌, ◌==◌, ◌||◌, not, Bool, false, All, List, length, map, nat_le, nat_lt, slice_index, Option, None, Some, if◌then◌else◌}
 use Rattle.std.specs.List.{count_by, filter_map, last_or, sum_by}
 use Rattle.std.specs.Str.{bytes_eq}
 use Rattle.vcd_reader.specs.Changes.{Triple}
@@ -52,3 +52,28 @@ unknown_by sources change = count_by (λ source. is_unknown (digit_given source 
 -- how many pairs of a change and a bit there are in which it gives `x` or `z`
 abbrev pub unknown_count : List Triple → List Source → ℕ
 unknown_count changes sources = sum_by (unknown_by sources) changes
+
+-- ---- laws
+
+-- the value of a bit that had this value, behind a change that gives it this digit, if it gives one
+abbrev pub value_after : Bool → Option ℕ → Bool
+value_after value None = value
+value_after value (Some digit) = digit == 49
+
+-- A change that comes later does not touch the value at the end of a time.
+abbrev pub EarlierStay : Type 0
+EarlierStay =
+    (changes : List Triple) (change : Triple) (time : ℕ) (source : Source) → time < change.time
+    → value_at (changes ++ change ∷ []) time source ≡ value_at changes time source
+
+-- One that comes by then gives its digit, and a bit that it does not give stays.
+abbrev pub ChangeGives : Type 0
+ChangeGives =
+    (changes : List Triple) (change : Triple) (time : ℕ) (source : Source) → change.time ≤ time
+    → value_at (changes ++ change ∷ []) time source ≡ value_after (value_at changes time source) (digit_given source change)
+
+-- Where no change comes behind a time, the values at the end of a later one are those at its end.
+abbrev pub NothingComes : Type 0
+NothingComes =
+    (changes : List Triple) (time later : ℕ) (source : Source) → All (λ change. change.time ≤ time) changes → time ≤ later
+    → value_at changes later source ≡ value_at changes time source

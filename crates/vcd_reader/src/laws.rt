@@ -1,7 +1,17 @@
 //! What the definitions say.
 ghost use Rattle.vcd_reader.specs.Examples.{ReadsExamples};
+ghost use Rattle.vcd_reader.specs.Rows.{EdgesGrow};
+ghost use Rattle.vcd_reader.specs.Values.{ChangeGives, EarlierStay, NothingComes};
 
 /// What the definitions say of small waveforms.
 pub fn examples()
     ensures { ReadsExamples }
+{}
+
+/// How values and edges grow from the left to the right.
+pub fn values_grow()
+    ensures earlier { EarlierStay }
+    ensures change { ChangeGives }
+    ensures nothing { NothingComes }
+    ensures edges { EdgesGrow }
 {}
