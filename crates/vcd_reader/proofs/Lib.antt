@@ -1,4 +1,5 @@
 pub mod BodyLemmas
+pub mod ChangeLemmas
 pub mod DecimalLemmas
 pub mod DeclareLemmas
 pub mod GroupLemmas

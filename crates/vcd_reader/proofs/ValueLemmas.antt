@@ -1,10 +1,10 @@
 -- Values and edges, one more at a time.
-use Rattle.std.proofs.Common.{◌≡◌, ℕ, ◌<◌, ◌≤◌, zero, suc, List, [], ◌∷◌, ◌++◌, All, Bool, true, false, cond, length, map, nat_le, get_or, Option, Some, None, if◌then◌else◌, arith, refl, subst, sym, ap, ◌∙◌}
+use Rattle.std.proofs.Common.{◌≡◌, ℕ, ◌<◌, ◌≤◌, zero, suc, List, [], ◌∷◌, ◌++◌, All, Bool, true, false, cond, not, ◌&&◌, length, map, nat_le, get_or, Option, Some, None, if◌then◌else◌, arith, refl, subst, sym, ap, ◌∙◌}
 use Rattle.std.specs.List.{cons_option, filter, filter_map, last_or, zip}
 use Rattle.std.proofs.lemmas.List.{append-nil, map-append}
 use Rattle.vcd_reader.specs.Changes.{Triple}
 use Rattle.vcd_reader.specs.Matching.{Source}
-use Rattle.vcd_reader.specs.Rows.{EdgesGrow, is_edge, sampled, steps}
+use Rattle.vcd_reader.specs.Rows.{EarlierSampled, EdgesGrow, is_edge, sampled, steps}
 use Rattle.vcd_reader.specs.Values.{ChangeGives, EarlierStay, NothingComes, digit_given, given_by, is_one, value_after, value_at}
 
 past : (time at : ℕ) → time < at → nat_le at time ≡ false
@@ -84,3 +84,30 @@ edges_grow changes clock times before now =
     ∙ ap (map (λ (step : ℕ × ℕ). step.0)) (filter_more edge (steps (times ++ before ∷ [])) (before, now))
     ∙ map-append (λ (step : ℕ × ℕ). step.0) (filter edge (steps (times ++ before ∷ []))) (if edge (before, now) then (before, now) ∷ [] else [])
     ∙ ap (λ rest. sampled changes clock (times ++ before ∷ []) ++ rest) (first_of_step (edge (before, now)) (before, now))
+
+same_edge : (changes : List Triple) (change : Triple) (clock : Source) (before now : ℕ) → before < change.time → now < change.time → is_edge (changes ++ change ∷ []) clock (before, now) ≡ is_edge changes clock (before, now)
+same_edge changes change clock before now h k =
+    ap (λ was. not was && value_at (changes ++ change ∷ []) now clock) (earlier_stay changes change before clock h)
+    ∙ ap (λ is. not (value_at changes before clock) && is) (earlier_stay changes change now clock k)
+
+sampled_step : (changes : List Triple) (clock : Source) (before now : ℕ) (times : List ℕ)
+    → sampled changes clock (before ∷ now ∷ times) ≡ (if is_edge changes clock (before, now) then before ∷ [] else []) ++ sampled changes clock (now ∷ times)
+sampled_step changes clock before now times = by (is_edge changes clock (before, now))
+  where
+    rest : List (ℕ × ℕ)
+    rest = filter (is_edge changes clock) (steps (now ∷ times))
+
+    by : (b : Bool) → map (λ (step : ℕ × ℕ). step.0) (cond b ((before, now) ∷ filter (is_edge changes clock) (steps (now ∷ times))) (filter (is_edge changes clock) (steps (now ∷ times))))
+        ≡ (if b then before ∷ [] else []) ++ map (λ (step : ℕ × ℕ). step.0) (filter (is_edge changes clock) (steps (now ∷ times)))
+    by true = refl
+    by false = refl
+
+pub earlier_sampled : EarlierSampled
+earlier_sampled changes change clock [] all = refl
+earlier_sampled changes change clock (before ∷ []) all = refl
+earlier_sampled changes change clock (before ∷ now ∷ times) all =
+    let more = changes ++ change ∷ [] in
+    sampled_step more clock before now times
+    ∙ ap (λ edge. (if edge then before ∷ [] else []) ++ sampled more clock (now ∷ times)) (same_edge changes change clock before now (all 0 before (omega arith)) (all 1 now (omega arith)))
+    ∙ ap (λ rest. (if is_edge changes clock (before, now) then before ∷ [] else []) ++ rest) (earlier_sampled changes change clock (now ∷ times) (λ k d h. all (suc k) d (omega arith)))
+    ∙ sym (sampled_step changes clock before now times)

@@ -1,5 +1,5 @@
 -- The changes of a body as triples of time, code and digits.
-use Rattle.std.specs.Prelude.{ℕ, ◌==◌, List, [], ◌∷◌, Option, None, Some, unwrap_or}
+use Rattle.std.specs.Prelude.{◌≡◌, ℕ, ◌==◌, List, [], ◌∷◌, ◌++◌, Option, None, Some, unwrap_or, if◌then◌else◌}
 use Rattle.std.specs.List.{dedup, filter_map, last_or}
 use Rattle.vcd_reader.specs.Body.{Item}
 use Rattle.vcd_reader.specs.Body.Item.{time, change, misplaced, unfinished}
@@ -43,3 +43,26 @@ first_time (first ∷ later) = first
 -- the changes: those before the first time belong to it
 abbrev pub triples : List Item → List Triple
 triples items = triples_from (first_time (all_times items)) items
+
+-- ---- laws
+
+-- the time that a change belongs to behind these items, where those before the first time belong to this one
+abbrev pub time_behind : ℕ → List Item → ℕ
+time_behind first items = unwrap_or (last_or None (all_times items)) first
+
+-- the change that an item is at this time, if it is one
+abbrev pub triple_of : ℕ → Item → List Triple
+triple_of now (change at code digits) = record { time = now; code = code; digits = digits } ∷ []
+triple_of now other = []
+
+-- One more item adds the change that it is, at the time that it belongs to.
+abbrev pub ChangesGrow : Type 0
+ChangesGrow =
+    (first : ℕ) (items : List Item) (item : Item)
+    → triples_from first (items ++ item ∷ []) ≡ triples_from first items ++ triple_of (time_behind first items) item
+
+-- The time that is the last one adds none, and any other is added at the end.
+abbrev pub TimesGrow : Type 0
+TimesGrow =
+    (items : List Item) (at before now : ℕ) → last_or None (all_times items) ≡ Some before
+    → times (items ++ time at now ∷ []) ≡ times items ++ (if now == before then [] else now ∷ [])

@@ -1,5 +1,5 @@
 -- The rows of a waveform.
-use Rattle.std.specs.Prelude.{◌≡◌, ℕ, ◌&&◌, not, Bool, List, [], ◌∷◌, ◌++◌, length, map, if◌then◌else◌}
+use Rattle.std.specs.Prelude.{◌≡◌, ◌<◌, All, ℕ, ◌&&◌, not, Bool, List, [], ◌∷◌, ◌++◌, length, map, if◌then◌else◌}
 use Rattle.std.specs.List.{filter, zip}
 use Rattle.trace_rows.specs.Rows.{Rows}
 use Rattle.vcd_reader.specs.Body.{Item}
@@ -43,3 +43,9 @@ EdgesGrow =
     (changes : List Triple) (clock : Source) (times : List ℕ) (before now : ℕ)
     → sampled changes clock (times ++ before ∷ now ∷ [])
     ≡ sampled changes clock (times ++ before ∷ []) ++ (if is_edge changes clock (before, now) then before ∷ [] else [])
+
+-- A change that comes later than these times does not touch what is sampled at them.
+abbrev pub EarlierSampled : Type 0
+EarlierSampled =
+    (changes : List Triple) (change : Triple) (clock : Source) (times : List ℕ) → All (λ time. time < change.time) times
+    → sampled (changes ++ change ∷ []) clock times ≡ sampled changes clock times

@@ -1,6 +1,7 @@
 //! What the definitions say.
+ghost use Rattle.vcd_reader.specs.Changes.{ChangesGrow, TimesGrow};
 ghost use Rattle.vcd_reader.specs.Examples.{ReadsExamples};
-ghost use Rattle.vcd_reader.specs.Rows.{EdgesGrow};
+ghost use Rattle.vcd_reader.specs.Rows.{EarlierSampled, EdgesGrow};
 ghost use Rattle.vcd_reader.specs.Values.{ChangeGives, EarlierStay, NothingComes};
 
 /// What the definitions say of small waveforms.
@@ -14,4 +15,11 @@ pub fn values_grow()
     ensures change { ChangeGives }
     ensures nothing { NothingComes }
     ensures edges { EdgesGrow }
+    ensures sampled { EarlierSampled }
+{}
+
+/// How the changes and the times grow, item by item.
+pub fn items_grow()
+    ensures changes { ChangesGrow }
+    ensures times { TimesGrow }
 {}
