@@ -47,7 +47,8 @@ breaks place tok rest = breaks_by tok.kind place tok rest
 -- the place of the first token that does, after what stands before
 unfoldable pub number_fault_after : Before → List Tok → Option ℕ
 number_fault_after place [] = None
-number_fault_after place (tok ∷ rest) = if breaks place tok rest then Some tok.at else number_fault_after (before_of tok) rest
+number_fault_after place (tok ∷ rest) =
+    if breaks place tok rest then Some tok.at else number_fault_after (before_of tok) rest
 
 abbrev pub number_fault_at : List Tok → Option ℕ
 number_fault_at ts = number_fault_after before.Other ts

@@ -33,7 +33,8 @@ impl Row {
     /// Fills in the lowest bits of a value.
     pub fn push(&mut self, value: u128, count: u32)
         requires { count ≤ 128 }
-        ensures { (width : ℕ) (given : List Bool) → Holds width self.old given → Holds width self.new (given ++ bits_of count value) }
+        ensures { (width : ℕ) (given : List Bool) → Holds width self.old given
+            → Holds width self.new (given ++ bits_of count value) }
     {
         for i in 0..count {
             self.push_bit(value >> i & 1 == 1);
@@ -41,7 +42,8 @@ impl Row {
     }
 
     fn push_bit(&mut self, bit: bool)
-        ensures { (width : ℕ) (given : List Bool) → Holds width self.old given → Holds width self.new (given ++ bit ∷ []) }
+        ensures { (width : ℕ) (given : List Bool) → Holds width self.old given
+            → Holds width self.new (given ++ bit ∷ []) }
     {
         if self.filled < self.bits.len() {
             self.bits.set(self.filled, bit);
