@@ -25,7 +25,8 @@ holding name bytes held = insert held name bytes
 abbrev pub appended : List ℕ → List ℕ → Held → Held
 appended name piece held = holding name (bytes_under held name ++ piece) held
 
--- The first `count` bytes of the buffer are those from `at` on, and there are none only at or past the end, or for no room.
+-- The first `count` bytes of the buffer are those from `at` on, and there are none only at or past the end, or for no
+-- room.
 pub record Reads (bytes : List ℕ) (at count : ℕ) (buffer : List ℕ) : Type 0 where
   pub same : take count buffer ≡ take count (drop at bytes)
   pub there : count ≤ length (drop at bytes)

@@ -22,13 +22,31 @@ abbrev pub shelf_code : Coded ShelfState
 shelf_code =
     code_by
     ((Held × (FaultCounts × FaultCounts)) × ((Calls × Calls) × (Calls × Calls)))
-    (coded× (coded× held_code (coded× counts_code counts_code)) (coded× (coded× calls_code calls_code) (coded× calls_code calls_code)))
+    (coded× (coded× held_code (coded× counts_code counts_code))
+    (coded× (coded× calls_code calls_code) (coded× calls_code calls_code)))
     (λ s. ((s.held, (s.reads, s.writes)), ((s.lens, s.read_ats), (s.creates, s.appends))))
-    (λ p. record { held = p.0.0; reads = p.0.1.0; writes = p.0.1.1; lens = p.1.0.0; read_ats = p.1.0.1; creates = p.1.1.0; appends = p.1.1.1 })
+    (λ p. record {
+      held = p.0.0;
+      reads = p.0.1.0;
+      writes = p.0.1.1;
+      lens = p.1.0.0;
+      read_ats = p.1.0.1;
+      creates = p.1.1.0;
+      appends = p.1.1.1;
+    })
     (λ _. refl)
 
 abbrev pub empty_shelf : ShelfState
-empty_shelf = record { held = empty; reads = empty; writes = empty; lens = no_calls; read_ats = no_calls; creates = no_calls; appends = no_calls }
+empty_shelf =
+    record {
+      held = empty;
+      reads = empty;
+      writes = empty;
+      lens = no_calls;
+      read_ats = no_calls;
+      creates = no_calls;
+      appends = no_calls;
+    }
 
 -- with one more call of this kind to fail
 abbrev pub failing : Call → ℕ → ℕ → ShelfState → ShelfState
@@ -64,7 +82,11 @@ after_append name piece shelf = record shelf { held = appended name piece shelf.
 
 abbrev pub after_failed_append : List ℕ → List ℕ → ℕ → ShelfState → ShelfState
 after_failed_append name piece keep shelf =
-    record shelf { held = appended name (take keep piece) shelf.held; appends = passed shelf.appends; writes = risen name shelf.writes }
+    record shelf {
+      held = appended name (take keep piece) shelf.held;
+      appends = passed shelf.appends;
+      writes = risen name shelf.writes;
+    }
 
 -- All is as before, but that `writes` may have one more name, at 0.
 pub record SameButEntered (old new : ShelfState) : Type 0 where

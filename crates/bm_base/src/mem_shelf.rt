@@ -13,9 +13,9 @@ use crate::{Call, Counts, Fault, NoMemory, Shelf};
 use std::alloc::Global;
 use std::marker::Model;
 
-/// Bytes in memory under names, whose calls fail where told. `len` and `read_at` also fail for a name that is not there,
-/// which stays absent. A call that is answered `Memory` is not counted and leaves the shelf as it was, but that an
-/// `append` which was to fail may have entered the name, at 0, into the counts of failed writes.
+/// Bytes in memory under names, whose calls fail where told. `len` and `read_at` also fail for a name that is not
+/// there, which stays absent. A call that is answered `Memory` is not counted and leaves the shelf as it was, but that
+/// an `append` which was to fail may have entered the name, at 0, into the counts of failed writes.
 #[derive(Debug, Drop)]
 pub struct MemShelf {
     files: Files,
@@ -34,7 +34,15 @@ impl Model for MemShelf {
 
     ghost coded = { shelf_code };
 
-    ghost view = { λ a. record { held = a.files; reads = a.reads; writes = a.writes; lens = a.lens; read_ats = a.read_ats; creates = a.creates; appends = a.appends } };
+    ghost view = { λ a. record {
+      held = a.files;
+      reads = a.reads;
+      writes = a.writes;
+      lens = a.lens;
+      read_ats = a.read_ats;
+      creates = a.creates;
+      appends = a.appends;
+    } };
 }
 
 impl MemShelf {
@@ -97,7 +105,8 @@ impl Shelf for MemShelf {
         ensures ok { OnOk result (self.new ≡ after_len self.old) }
         ensures failed { IsErrOf result Fault.Failed → self.new ≡ after_failed_len name.now self.old }
         ensures memory { IsErrOf result Fault.Memory → self.new ≡ self.old }
-        ensures cause { IsErrOf result Fault.Failed → Rose (count_of self.old.reads name.now) (count_of self.new.reads name.now) }
+        ensures cause { IsErrOf result Fault.Failed
+            → Rose (count_of self.old.reads name.now) (count_of self.new.reads name.now) }
         ensures reads { RisesOnlyAt name.now self.old.reads self.new.reads }
     {
         match (self.lens.planned(), self.files.get(name)) {
@@ -123,7 +132,8 @@ impl Shelf for MemShelf {
         ensures ok { OnOk result (self.new ≡ after_read_at self.old) }
         ensures failed { IsErrOf result Fault.Failed → self.new ≡ after_failed_read_at name.now self.old }
         ensures memory { IsErrOf result Fault.Memory → self.new ≡ self.old }
-        ensures cause { IsErrOf result Fault.Failed → Rose (count_of self.old.reads name.now) (count_of self.new.reads name.now) }
+        ensures cause { IsErrOf result Fault.Failed
+            → Rose (count_of self.old.reads name.now) (count_of self.new.reads name.now) }
         ensures reads { RisesOnlyAt name.now self.old.reads self.new.reads }
     {
         match (self.read_ats.planned(), self.files.get(name)) {
@@ -143,9 +153,11 @@ impl Shelf for MemShelf {
     fn create(&mut self, name: &str) -> Result<(), Fault>
         ensures unplanned { OnOk result (planned self.old.creates ≡ None) }
         ensures ok { OnOk result (self.new ≡ after_create name.now self.old) }
-        ensures failed { IsErrOf result Fault.Failed → IsSome (planned self.old.creates) × (self.new ≡ after_failed_create name.now self.old) }
+        ensures failed { IsErrOf result Fault.Failed
+            → IsSome (planned self.old.creates) × (self.new ≡ after_failed_create name.now self.old) }
         ensures memory { IsErrOf result Fault.Memory → self.new ≡ self.old }
-        ensures cause { IsErrOf result Fault.Failed → Rose (count_of self.old.writes name.now) (count_of self.new.writes name.now) }
+        ensures cause { IsErrOf result Fault.Failed
+            → Rose (count_of self.old.writes name.now) (count_of self.new.writes name.now) }
         ensures writes { RisesOnlyAt name.now self.old.writes self.new.writes }
     {
         if self.creates.planned().is_some() {
@@ -161,9 +173,12 @@ impl Shelf for MemShelf {
     fn append(&mut self, name: &str, piece: &[u8]) -> Result<(), Fault>
         ensures unplanned { OnOk result (planned self.old.appends ≡ None) }
         ensures ok { OnOk result (self.new ≡ after_append name.now piece.now self.old) }
-        ensures failed { IsErrOf result Fault.Failed → IsSomeAnd (planned self.old.appends) (λ keep. self.new ≡ after_failed_append name.now piece.now keep self.old) }
+        ensures failed { IsErrOf result Fault.Failed
+            → IsSomeAnd (planned self.old.appends)
+            (λ keep. self.new ≡ after_failed_append name.now piece.now keep self.old) }
         ensures memory { IsErrOf result Fault.Memory → SameButEntered self.old self.new }
-        ensures cause { IsErrOf result Fault.Failed → Rose (count_of self.old.writes name.now) (count_of self.new.writes name.now) }
+        ensures cause { IsErrOf result Fault.Failed
+            → Rose (count_of self.old.writes name.now) (count_of self.new.writes name.now) }
         ensures writes { RisesOnlyAt name.now self.old.writes self.new.writes }
     {
         match self.appends.planned() {

@@ -7,8 +7,8 @@ use crate::{Fault, NoMemory, Sink};
 use std::alloc::Global;
 use std::marker::Model;
 
-/// Printed bytes in memory, whose calls fail where told. A call that is answered `Memory` is not counted, and leaves the
-/// sink as it was.
+/// Printed bytes in memory, whose calls fail where told. A call that is answered `Memory` is not counted, and leaves
+/// the sink as it was.
 #[derive(Debug, Drop)]
 pub struct MemSink {
     taken: Vec<u8>,
@@ -61,7 +61,8 @@ impl Sink for MemSink {
     fn put(&mut self, piece: &[u8]) -> Result<(), Fault>
         ensures unplanned { OnOk result (planned self.old.script ≡ None) }
         ensures ok { OnOk result (self.new ≡ after_put piece.now self.old) }
-        ensures failed { IsErrOf result Fault.Failed → IsSomeAnd (planned self.old.script) (λ keep. self.new ≡ after_failed_put piece.now keep self.old) }
+        ensures failed { IsErrOf result Fault.Failed
+            → IsSomeAnd (planned self.old.script) (λ keep. self.new ≡ after_failed_put piece.now keep self.old) }
         ensures grows { self.old.faults ≤ self.new.faults }
         ensures memory { IsErrOf result Fault.Memory → self.new ≡ self.old }
     {

@@ -6,8 +6,8 @@ use std::alloc::{AllocError, Global};
 use std::marker::Model;
 use std::rc::RcSlice;
 
-/// A name of a netlist or of a waveform: any bytes, seen by contracts as their list. The text is shared: a clone takes no
-/// memory for it.
+/// A name of a netlist or of a waveform: any bytes, seen by contracts as their list. The text is shared: a clone takes
+/// no memory for it.
 #[derive(Debug, Drop)]
 pub struct Name {
     text: RcSlice<u8>,

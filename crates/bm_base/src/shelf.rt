@@ -22,27 +22,33 @@ pub trait Shelf {
 
     /// How many bytes are under the name.
     fn len(&mut self, name: &str) -> Result<u64, Fault>
-        ensures length { IfOk result (λ len. IfSome (held self.old) (λ held. len ≡ length (bytes_under held name.now))) }
+        ensures length { IfOk result
+            (λ len. IfSome (held self.old) (λ held. len ≡ length (bytes_under held name.now))) }
         ensures held { held self.new ≡ held self.old }
-        ensures cause { IsErrOf result Fault.Failed → Rose (count_of (reads self.old) name.now) (count_of (reads self.new) name.now) }
+        ensures cause { IsErrOf result Fault.Failed
+            → Rose (count_of (reads self.old) name.now) (count_of (reads self.new) name.now) }
         ensures reads { RisesOnlyAt name.now (reads self.old) (reads self.new) }
         ensures writes { SameCounts (writes self.old) (writes self.new) };
 
-    /// Reads bytes under the name from byte offset `at` on into the front of `buf`, and says how many. None are read only
-    /// at or past the end, or into no room.
+    /// Reads bytes under the name from byte offset `at` on into the front of `buf`, and says how many. None are read
+    /// only at or past the end, or into no room.
     fn read_at(&mut self, name: &str, at: u64, buf: &mut [u8]) -> Result<usize, Fault>
         ensures within { IfOk result (λ count. count ≤ length buf.old) }
-        ensures bytes { IfOk result (λ count. IfSome (held self.old) (λ held. Reads (bytes_under held name.now) at count buf.new)) }
+        ensures bytes { IfOk result
+            (λ count. IfSome (held self.old) (λ held. Reads (bytes_under held name.now) at count buf.new)) }
         ensures held { held self.new ≡ held self.old }
-        ensures cause { IsErrOf result Fault.Failed → Rose (count_of (reads self.old) name.now) (count_of (reads self.new) name.now) }
+        ensures cause { IsErrOf result Fault.Failed
+            → Rose (count_of (reads self.old) name.now) (count_of (reads self.new) name.now) }
         ensures reads { RisesOnlyAt name.now (reads self.old) (reads self.new) }
         ensures writes { SameCounts (writes self.old) (writes self.new) };
 
     /// Empties the name, or adds it with no bytes. After a fault it is as before or empty.
     fn create(&mut self, name: &str) -> Result<(), Fault>
         ensures ok { OnOk result (held self.new ≡ option_map (holding name.now []) (held self.old)) }
-        ensures err { OnErr result ((held self.new ≡ held self.old) ⊎ (held self.new ≡ option_map (holding name.now []) (held self.old))) }
-        ensures cause { IsErrOf result Fault.Failed → Rose (count_of (writes self.old) name.now) (count_of (writes self.new) name.now) }
+        ensures err { OnErr result
+            ((held self.new ≡ held self.old) ⊎ (held self.new ≡ option_map (holding name.now []) (held self.old))) }
+        ensures cause { IsErrOf result Fault.Failed
+            → Rose (count_of (writes self.old) name.now) (count_of (writes self.new) name.now) }
         ensures writes { RisesOnlyAt name.now (writes self.old) (writes self.new) }
         ensures reads { SameCounts (reads self.old) (reads self.new) };
 
@@ -50,7 +56,8 @@ pub trait Shelf {
     fn append(&mut self, name: &str, piece: &[u8]) -> Result<(), Fault>
         ensures ok { OnOk result (held self.new ≡ option_map (appended name.now piece.now) (held self.old)) }
         ensures err { OnErr result (GainsPrefix name.now piece.now (held self.old) (held self.new)) }
-        ensures cause { IsErrOf result Fault.Failed → Rose (count_of (writes self.old) name.now) (count_of (writes self.new) name.now) }
+        ensures cause { IsErrOf result Fault.Failed
+            → Rose (count_of (writes self.old) name.now) (count_of (writes self.new) name.now) }
         ensures writes { RisesOnlyAt name.now (writes self.old) (writes self.new) }
         ensures reads { SameCounts (reads self.old) (reads self.new) };
 }

@@ -11,7 +11,8 @@ length-cut rows i within = omega (arith, length-remove rows i within)
 
 -- What each row meets, each that is left meets.
 pub All-cut : (P : List Bool → Type 0) (rows : List (List Bool)) (i : ℕ) → All P rows → All P (cut rows i)
-All-cut P rows i all = All-append P (take i rows) (drop (suc i) rows) (All-take P i rows all) (All-drop P (suc i) rows all)
+All-cut P rows i all =
+    All-append P (take i rows) (drop (suc i) rows) (All-take P i rows all) (All-drop P (suc i) rows all)
 
 -- The rows up to the place are those of the whole.
 pub take-cut_below : (n : ℕ) (rows : List (List Bool)) (i : ℕ) → n ≤ i → take n (cut rows i) ≡ take n rows

@@ -46,9 +46,11 @@ place_of place = record { row = place.0; bit = place.1 }
 -- For rows of one width, a place is listed exactly where there is an event.
 abbrev pub EventsAreListed : Type 0
 EventsAreListed =
-    (base : List Bool) (rows : List (List Bool)) → All (λ row. length row ≡ length base) rows → (i b : ℕ) → Contains (event_places base rows) (i, b) ↔ IsEvent base rows i b
+    (base : List Bool) (rows : List (List Bool)) → All (λ row. length row ≡ length base) rows → (i b : ℕ)
+    → Contains (event_places base rows) (i, b) ↔ IsEvent base rows i b
 
 -- Each listed place is below all later ones, so it is listed once.
 abbrev pub EventsAreIncreasing : (Place → Place → Ordering) → Type 0
 EventsAreIncreasing cmp =
-    (base : List Bool) (rows : List (List Bool)) → AllPairs (λ p q. cmp (place_of p) (place_of q) ≡ Less) (event_places base rows)
+    (base : List Bool) (rows : List (List Bool))
+    → AllPairs (λ p q. cmp (place_of p) (place_of q) ≡ Less) (event_places base rows)

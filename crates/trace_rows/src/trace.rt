@@ -20,7 +20,8 @@ impl Model for Trace {
 
     ghost view = { λ trace. record { width = trace.width; rows = trace.rows.items } };
 
-    ghost invariant = { λ trace. All (λ row. length row ≡ trace.width) trace.rows.items × (vec_len trace.rows * trace.width < 2 ^ 64) };
+    ghost invariant = { λ trace. All (λ row. length row ≡ trace.width) trace.rows.items
+        × (vec_len trace.rows * trace.width < 2 ^ 64) };
 }
 
 impl Trace {

@@ -14,12 +14,14 @@ range_part (Some range) = codes " [" ++ decimal range.left ++ codes ":" ++ decim
 -- the declaration of a variable: its width, code, name and range
 unfoldable pub variable_line : ℕ → List ℕ → List ℕ → Option Range → List ℕ
 variable_line width code name range =
-    codes "$var wire " ++ decimal width ++ codes " " ++ code ++ codes " " ++ written_name name ++ range_part range ++ codes " $end"
+    codes "$var wire " ++ decimal width ++ codes " " ++ code ++ codes " " ++ written_name name ++ range_part range
+    ++ codes " $end"
 
 -- a declaration for each port, from this number on
 abbrev pub port_lines : ℕ → List PortLabel → List (List ℕ)
 port_lines number [] = []
-port_lines number (port ∷ ports) = variable_line port.width (code_of number) port.name port.range ∷ port_lines (number + 1) ports
+port_lines number (port ∷ ports) =
+    variable_line port.width (code_of number) port.name port.range ∷ port_lines (number + 1) ports
 
 -- up to the scope of the top
 abbrev pub opening_lines : List ℕ → List (List ℕ)

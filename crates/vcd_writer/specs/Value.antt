@@ -33,11 +33,13 @@ row_width ports = sum_by (λ port. port.width) ports
 abbrev pub port_value_lines : ℕ → List PortLabel → List Bool → List (List ℕ)
 port_value_lines number [] row = []
 port_value_lines number (port ∷ ports) row =
-    value_line port.range (take port.width row) (code_of number) ∷ port_value_lines (number + 1) ports (drop port.width row)
+    value_line port.range (take port.width row) (code_of number)
+    ∷ port_value_lines (number + 1) ports (drop port.width row)
 
 -- the line of a port, where its bits differ from those before
 abbrev pub port_change : ℕ → PortLabel → List Bool → List Bool → List (List ℕ)
-port_change number port before bits = if are_same before bits then [] else value_line port.range bits (code_of number) ∷ []
+port_change number port before bits =
+    if are_same before bits then [] else value_line port.range bits (code_of number) ∷ []
 
 -- a line for each port that differs from the row before, from this number on
 abbrev pub port_change_lines : ℕ → List PortLabel → List Bool → List Bool → List (List ℕ)

@@ -11,8 +11,9 @@ use trace_rows::{Labels, Trace};
 
 /// The text of the waveform that shows these rows, with the checker's bit of each where `bad` gives them.
 ///
-/// Row `i` stands at `10 * i` ns with the clock at 0, and each but the last is followed by an edge, 5 ns later, at which
-/// the clock is 1. After the first row only the clock and what has changed is written. The only error is want of memory.
+/// Row `i` stands at `10 * i` ns with the clock at 0, and each but the last is followed by an edge, 5 ns later, at
+/// which the clock is 1. After the first row only the clock and what has changed is written. The only error is want of
+/// memory.
 #[tactic(auto, unfolding(crate::specs::Waveform::vcd))]
 pub fn vcd_text(
     alloc: Global,

@@ -12,10 +12,12 @@ opens token = bytes_eq token.text (codes "(*")
 abbrev pub closes : Tok → Bool
 closes token = bytes_eq token.text (codes "*)")
 
--- the tokens that stay, where the first stands outside (false) or inside (true) of an attribute; a `(*` opens one where a `*)` follows
+-- the tokens that stay, where the first stands outside (false) or inside (true) of an attribute; a `(*` opens one where
+-- a `*)` follows
 abbrev pub stay : Bool → List Tok → List Tok
 stay inside [] = []
-stay false (token ∷ tokens) = if opens token && list_any closes tokens then stay true tokens else (token ∷ stay false tokens)
+stay false (token ∷ tokens) =
+    if opens token && list_any closes tokens then stay true tokens else (token ∷ stay false tokens)
 stay true (token ∷ tokens) = if closes token then stay false tokens else stay true tokens
 
 -- the tokens without those from a `(*` to the next `*)`
@@ -24,9 +26,13 @@ without_attributes tokens = stay false tokens
 
 -- An attribute is dropped: the first `(*`, the next `*)` and what stands between them.
 abbrev pub DropsAttributes : Type 0
-DropsAttributes = (front inside rest : List Tok) (first last : Tok) → list_any opens front ≡ false → opens first ≡ true → list_any closes inside ≡ false → closes last ≡ true
+DropsAttributes =
+    (front inside rest : List Tok) (first last : Tok) → list_any opens front ≡ false → opens first ≡ true
+    → list_any closes inside ≡ false → closes last ≡ true
     → without_attributes (front ++ (first ∷ (inside ++ (last ∷ rest)))) ≡ front ++ without_attributes rest
 
 -- After tokens without a `(*`, tokens without a `*)` stay, a `(*` among them too.
 abbrev pub KeepsOpenMarks : Type 0
-KeepsOpenMarks = (front rest : List Tok) → list_any opens front ≡ false → list_any closes rest ≡ false → without_attributes (front ++ rest) ≡ front ++ rest
+KeepsOpenMarks =
+    (front rest : List Tok) → list_any opens front ≡ false → list_any closes rest ≡ false
+    → without_attributes (front ++ rest) ≡ front ++ rest

@@ -33,7 +33,8 @@ pub record IsSystem (source : List ℕ) (from to : ℕ) : Type 0 where
 
 -- where the letter of the base stands: after the quote and an `s` or `S` if there is one
 abbrev pub base_at : List ℕ → ℕ → ℕ
-base_at source from = if slice_index source (from + 1) == 115 || slice_index source (from + 1) == 83 then from + 2 else from + 1
+base_at source from =
+    if slice_index source (from + 1) == 115 || slice_index source (from + 1) == 83 then from + 2 else from + 1
 
 -- the digits of the base with this letter
 abbrev pub digits_of : ℕ → Option Class
@@ -44,7 +45,8 @@ digits_of letter =
     else (if letter == 104 || letter == 72 then Some HexDigit
     else None)))
 
--- a quote, an `s` or `S` if there is one, the base's letter, white space if any, and one or more digits, of which the first is not `_`
+-- a quote, an `s` or `S` if there is one, the base's letter, white space if any, and one or more digits, of which the
+-- first is not `_`
 pub record IsBased (source : List ℕ) (from to : ℕ) : Type 0 where
   pub digits : Class
   pub base : digits_of (slice_index source (base_at source from)) ≡ Some digits

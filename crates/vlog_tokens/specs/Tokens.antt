@@ -20,7 +20,8 @@ ArePieces source from (mid ∷ ends) to = IsPiece source from mid × ArePieces s
 -- the tokens among pieces that end at these places
 abbrev pub tokens_of : List ℕ → ℕ → List ℕ → List Tok
 tokens_of source from [] = []
-tokens_of source from (mid ∷ ends) = token_of (row_at source from) from (slice_range source from mid) ++ tokens_of source mid ends
+tokens_of source from (mid ∷ ends) =
+    token_of (row_at source from) from (slice_range source from mid) ++ tokens_of source mid ends
 
 -- The source is pieces one after another, and these are its tokens without those of attributes.
 pub record AreTokens (source : List ℕ) (tokens : List Tok) : Type 0 where
@@ -32,11 +33,13 @@ pub record AreTokens (source : List ℕ) (tokens : List Tok) : Type 0 where
 abbrev pub IsOneTokenList : Type 0
 IsOneTokenList = (source : List ℕ) (ts us : List Tok) → AreTokens source ts → AreTokens source us → ts ≡ us
 
--- From this place on these tokens stand in the source, in order and without overlap, each with some bytes, the source's from its place on.
+-- From this place on these tokens stand in the source, in order and without overlap, each with some bytes, the source's
+-- from its place on.
 abbrev pub AreInOrder : List ℕ → ℕ → List Tok → Type 0
 AreInOrder source from [] = Unit {0}
 AreInOrder source from (token ∷ tokens) =
-    (from ≤ token.at) × (0 < length token.text) × (token.at + length token.text ≤ length source) × (token.text ≡ slice_range source token.at (token.at + length token.text))
+    (from ≤ token.at) × (0 < length token.text) × (token.at + length token.text ≤ length source)
+    × (token.text ≡ slice_range source token.at (token.at + length token.text))
     × AreInOrder source (token.at + length token.text) tokens
 
 -- The tokens of a source stand in it, in order and without overlap.

@@ -1,4 +1,5 @@
-//! What the tokens of a netlist are (IEEE 1364-2005, clause 3): the types and the definitions that lexer and grammar share.
+//! What the tokens of a netlist are (IEEE 1364-2005, clause 3): the types and the definitions that lexer and grammar
+//! share.
 #![tactic(auto)]
 
 mod class;

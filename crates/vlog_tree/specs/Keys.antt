@@ -25,7 +25,10 @@ pub record Instance : Type 0 where
 
 -- the top, where there is a module of its name
 abbrev pub top_instance : Machine → List Instance
-top_instance machine = option_to_list (option_map (λ m. record { path = []; definition = m }) (find (λ m. bytes_eq m.name machine.top) machine.design.modules))
+top_instance machine =
+    option_to_list
+    (option_map (λ m. record { path = []; definition = m })
+    (find (λ m. bytes_eq m.name machine.top) machine.design.modules))
 
 -- The instances in pre-order. So far it is the top alone: no tree that is read has an instance of a module.
 abbrev pub instances : Machine → List Instance
@@ -33,7 +36,9 @@ instances machine = top_instance machine
 
 -- the bits of a name, the right end first
 abbrev pub name_keys : Instance → Text → List Key
-name_keys instance name = map (λ bit. record { path = instance.path; name = name; bit = bit }) (range_with_len 0 (width_of instance.definition name))
+name_keys instance name =
+    map (λ bit. record { path = instance.path; name = name; bit = bit })
+    (range_with_len 0 (width_of instance.definition name))
 
 -- the bits of some names of each instance
 abbrev pub keys_of : (Module → List Text) → List Instance → List Key

@@ -49,7 +49,8 @@ range_width (Some range) = (range.left - range.right) + (range.right - range.lef
 -- the width of the first declaration of the name among these items, and 1 where it has none
 abbrev pub declared_width : List Item → Text → ℕ
 declared_width [] name = 1
-declared_width (Decl at dir kind range other ∷ items) name = cond (bytes_eq other name) (range_width range) (declared_width items name)
+declared_width (Decl at dir kind range other ∷ items) name =
+    cond (bytes_eq other name) (range_width range) (declared_width items name)
 declared_width (other ∷ items) name = declared_width items name
 
 abbrev pub width_of : Module → Text → ℕ

@@ -9,7 +9,8 @@ state_at machine rows cycle = state_after machine (start machine) (take cycle ro
 
 -- The cycle is there, and the checker is 1 in it.
 abbrev pub ViolatesAt : Machine → List (List Bool) → ℕ → Type 0
-ViolatesAt machine rows cycle = (row : List Bool) × (slice_get rows cycle ≡ Some row) × (bad machine (state_at machine rows cycle) row ≡ true)
+ViolatesAt machine rows cycle =
+    (row : List Bool) × (slice_get rows cycle ≡ Some row) × (bad machine (state_at machine rows cycle) row ≡ true)
 
 -- Some cycle violates.
 abbrev pub Violates : Machine → List (List Bool) → Type 0

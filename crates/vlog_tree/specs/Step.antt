@@ -35,7 +35,9 @@ next_bit machine read key before = fold (after_item read key) before (items_at m
 
 -- the state after a cycle with this state and this row
 abbrev pub next : Machine → List Bool → List Bool → List Bool
-next machine state row = map (λ register. next_bit machine (value machine state row) register.0 register.1) (zip (register_keys machine) state)
+next machine state row =
+    map (λ register. next_bit machine (value machine state row) register.0 register.1)
+    (zip (register_keys machine) state)
 
 abbrev pub check_key : Machine → Key
 check_key machine = record { path = []; name = machine.check; bit = 0 }

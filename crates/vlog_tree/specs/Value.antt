@@ -1,4 +1,5 @@
--- The value of a bit in a state under a row, read from the syntax tree by need (IEEE 1364-2005, clauses 5 and 7, two-valued).
+-- The value of a bit in a state under a row, read from the syntax tree by need (IEEE 1364-2005, clauses 5 and 7,
+-- two-valued).
 use Rattle.std.specs.Prelude.{◌≡◌, ℕ, ◌==◌, zero, suc, List, [], ◌∷◌, Bool, false, not, ◌&&◌, Option, Some, None, All, bytes_eq, cond, length, map}
 use Rattle.std.specs.List.{find, list_all, list_any}
 use Rattle.std.specs.Option.{IsSome, option_and_then, option_map, option_or}
@@ -71,7 +72,8 @@ drives key other = false
 
 -- what the item gives to the bit that it drives
 abbrev pub driven_bit : Reading → Key → Item → Option Bool
-driven_bit read key (Gate at kind name outs ins) = option_and_then (gate_bit kind) (all_of (map (λ input. expr_bit read key.path input 0) ins))
+driven_bit read key (Gate at kind name outs ins) =
+    option_and_then (gate_bit kind) (all_of (map (λ input. expr_bit read key.path input 0) ins))
 driven_bit read key other = None
 
 -- what the driver gives, and 0 where there is none
@@ -94,5 +96,6 @@ value machine state row = read machine state row (length (all_keys machine))
 
 -- Each key has a value in every state under every row.
 abbrev pub IsLoopFree : Machine → Type 0
-IsLoopFree machine = (state row : List Bool) → length state ≡ length (register_keys machine) → length row ≡ length (input_keys machine)
+IsLoopFree machine =
+    (state row : List Bool) → length state ≡ length (register_keys machine) → length row ≡ length (input_keys machine)
     → All (λ key. IsSome (value machine state row key)) (all_keys machine)

@@ -34,8 +34,8 @@ pub enum GateKind {
 /// gives one of these for each.
 #[derive(Debug, Drop)]
 pub enum Item {
-    /// A name that is declared. One that is declared with a value gives this and, right after it, an `Assign` for a wire
-    /// or an `Initial` for a register.
+    /// A name that is declared. One that is declared with a value gives this and, right after it, an `Assign` for a
+    /// wire or an `Initial` for a register.
     Decl {
         at: u64,
         dir: Option<Dir>,

@@ -1,8 +1,8 @@
 //! The syntax tree of a netlist: structural Verilog of IEEE 1364-2005, in the profile that the documents give.
 //!
-//! Each `at` is the byte offset, from 0, of the first token of its part. Lists are `Items` and children `Boxed`, so that
-//! contracts see a tree as plain data and can compare it with what a definition computes. Which bytes spell a tree, and what
-//! it means as a machine, is defined in `specs/`.
+//! Each `at` is the byte offset, from 0, of the first token of its part. Lists are `Items` and children `Boxed`, so
+//! that contracts see a tree as plain data and can compare it with what a definition computes. Which bytes spell a
+//! tree, and what it means as a machine, is defined in `specs/`.
 #![tactic(auto)]
 
 mod design;

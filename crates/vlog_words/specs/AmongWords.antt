@@ -7,7 +7,8 @@ use Rattle.std.proofs.lemmas.List.Elements.{Decides-contains}
 use Rattle.std.proofs.lemmas.Slice.Eq.{bytes_eq-Decides}
 use Rattle.vlog_words.specs.Words.{is_text_among}
 
-pub is_text_among-Decides : (words : List (List ℕ)) (text : List ℕ) → Decides (is_text_among words text) (Contains words text)
+pub is_text_among-Decides : (words : List (List ℕ)) (text : List ℕ)
+    → Decides (is_text_among words text) (Contains words text)
 is_text_among-Decides words text =
     let test : List ℕ → Bool = λ word. bytes_eq word text in
     let each : (word : List ℕ) → Decides (test word) (word ≡ text) = λ word. bytes_eq-Decides word text in

@@ -1,5 +1,5 @@
-//! The words of the netlist language (IEEE 1364-2005, clauses 3.2 and 3.7, annex B): which texts are words, which of them
-//! are reserved, and which bytes are white space.
+//! The words of the netlist language (IEEE 1364-2005, clauses 3.2 and 3.7, annex B): which texts are words, which of
+//! them are reserved, and which bytes are white space.
 #![tactic(auto)]
 
 mod among;

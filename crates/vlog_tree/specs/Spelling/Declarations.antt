@@ -18,7 +18,8 @@ use Rattle.vlog_tree.specs.Spelling.Parts.{Is, IsName, IsRange, Optional, place_
 
 -- dir = "input" | "output"
 abbrev pub direction : List ℕ → Option Dir
-direction text = if bytes_eq text (codes "input") then Some Input else (if bytes_eq text (codes "output") then Some Output else None)
+direction text =
+    if bytes_eq text (codes "input") then Some Input else (if bytes_eq text (codes "output") then Some Output else None)
 
 -- kind?, where kind = "wire" | "reg"
 pub data IsKind : List Tok → NetKind → Type 0 where
@@ -34,7 +35,8 @@ pub record Shape : Type 0 where
 
 -- dir kind? range?
 pub data IsPortShape : List Tok → Shape → Type 0 where
-  port_shape : (word : Tok) (ks rs : List Tok) (dir : Dir) (kind : NetKind) (range : Option Range) → direction (terminal word) ≡ Some dir → IsKind ks kind → Optional IsRange rs range
+  port_shape : (word : Tok) (ks rs : List Tok) (dir : Dir) (kind : NetKind) (range : Option Range)
+      → direction (terminal word) ≡ Some dir → IsKind ks kind → Optional IsRange rs range
       → IsPortShape (word ∷ (ks ++ rs)) (record { dir = Some dir; kind = kind; range = range })
 
 -- a name that is declared, its place, and its value if it has one
@@ -45,14 +47,19 @@ pub record Declared : Type 0 where
 
 -- pname = name | name "=" number, the second after `reg` only
 pub data IsRegister : NetKind → List Tok → Declared → Type 0 where
-  plain : (kind : NetKind) (word : Tok) (name : List ℕ) → IsName word name → IsRegister kind (word ∷ []) (record { at = word.at; name = name; value = None })
-  initial : (word equals : Tok) (ts : List Tok) (name : List ℕ) (bits : List Bool) → IsName word name → Is (codes "=") equals → IsNumber ts bits
-      → IsRegister Reg (word ∷ equals ∷ ts) (record { at = word.at; name = name; value = Some (expr.Number (place_of ts) bits) })
+  plain : (kind : NetKind) (word : Tok) (name : List ℕ) → IsName word name
+      → IsRegister kind (word ∷ []) (record { at = word.at; name = name; value = None })
+  initial : (word equals : Tok) (ts : List Tok) (name : List ℕ) (bits : List Bool) → IsName word name
+      → Is (codes "=") equals → IsNumber ts bits
+      → IsRegister Reg (word ∷ equals ∷ ts)
+      (record { at = word.at; name = name; value = Some (expr.Number (place_of ts) bits) })
 
 -- wname = name | name "=" expr
 pub data IsWire : List Tok → Declared → Type 0 where
-  plain : (word : Tok) (name : List ℕ) → IsName word name → IsWire (word ∷ []) (record { at = word.at; name = name; value = None })
-  assigned : (word equals : Tok) (ts : List Tok) (name : List ℕ) (right : Expr) → IsName word name → Is (codes "=") equals → SpellsExpr ts right
+  plain : (word : Tok) (name : List ℕ) → IsName word name
+      → IsWire (word ∷ []) (record { at = word.at; name = name; value = None })
+  assigned : (word equals : Tok) (ts : List Tok) (name : List ℕ) (right : Expr) → IsName word name
+      → Is (codes "=") equals → SpellsExpr ts right
       → IsWire (word ∷ equals ∷ ts) (record { at = word.at; name = name; value = Some right })
 
 -- the declaration of a name

@@ -15,8 +15,10 @@ assigned (part range) at name = left.Part at name range
 -- name | name "[" decimal "]" | name range | "{" left,+ "}", where the inner ones are given
 module _ (Inner : List Tok → Left → Type 0) where
   pub data Target : List Tok → Left → Type 0 where
-    name : (word : Tok) (ts : List Tok) (text : List ℕ) (select : Select) → IsName word text → IsSelect ts select → Target (word ∷ ts) (assigned select word.at text)
-    join : (opening closing : Tok) (ts : List Tok) (parts : List Left) → Is (codes "{") opening → Commas Inner ts parts → Is (codes "}") closing
+    name : (word : Tok) (ts : List Tok) (text : List ℕ) (select : Select) → IsName word text → IsSelect ts select
+        → Target (word ∷ ts) (assigned select word.at text)
+    join : (opening closing : Tok) (ts : List Tok) (parts : List Left) → Is (codes "{") opening → Commas Inner ts parts
+        → Is (codes "}") closing
         → Target (opening ∷ (ts ++ closing ∷ [])) (left.Join parts)
 
 -- A left side in which braces nest less deep than the number.

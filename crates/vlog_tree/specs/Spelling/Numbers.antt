@@ -30,7 +30,8 @@ digit_value digit =
 
 -- the bits of digits that are this many bits each; a `_` is none
 abbrev pub digit_bits : ℕ → List ℕ → List Bool
-digit_bits width digits = flat_map (λ digit. bits_of width (digit_value digit)) (reverse (filter (λ digit. not (digit == 95)) digits))
+digit_bits width digits =
+    flat_map (λ digit. bits_of width (digit_value digit)) (reverse (filter (λ digit. not (digit == 95)) digits))
 
 -- one unknown digit, with nothing else
 abbrev pub is_lone_unknown : List ℕ → Bool
@@ -39,11 +40,14 @@ is_lone_unknown digits = false
 
 -- digits and `_`, of a value below 2^128
 abbrev pub is_decimal_value : List ℕ → Bool
-is_decimal_value digits = list_all (λ digit. is_ascii_digit digit || digit == 95) digits && nat_lt (decimal_value digits) (2 ^ 128)
+is_decimal_value digits =
+    list_all (λ digit. is_ascii_digit digit || digit == 95) digits && nat_lt (decimal_value digits) (2 ^ 128)
 
 -- the bits of digits of base `d`, if they are a value
 abbrev pub decimal_bits : List ℕ → Option (List Bool)
-decimal_bits digits = if is_lone_unknown digits then Some [] else (if is_decimal_value digits then Some (bits_of 128 (decimal_value digits)) else None)
+decimal_bits digits =
+    if is_lone_unknown digits then Some []
+    else (if is_decimal_value digits then Some (bits_of 128 (decimal_value digits)) else None)
 
 -- the bits of digits by the letter of their base: `b`, `o`, `h` or `d` in either case
 abbrev pub based_bits : ℕ → List ℕ → Option (List Bool)
@@ -63,8 +67,11 @@ based_value text = None
 abbrev pub IsBased : Tok → List Bool → Type 0
 IsBased tok bits = (tok.kind ≡ Based) × (based_value tok.text ≡ Some bits)
 
--- A decimal or a based token by itself has 32 bits, and a based one a value below 2^32. A decimal directly before a based token is its size.
+-- A decimal or a based token by itself has 32 bits, and a based one a value below 2^32. A decimal directly before a
+-- based token is its size.
 pub data IsNumber : List Tok → List Bool → Type 0 where
   decimal : (digits : Tok) (value : ℕ) → IsDecimal digits value → IsNumber (digits ∷ []) (bits_of 32 value)
-  based : (digits : Tok) (bits : List Bool) → IsBased digits bits → list_all not (drop 32 bits) ≡ true → IsNumber (digits ∷ []) (at_width 32 bits)
-  sized : (size digits : Tok) (width : ℕ) (bits : List Bool) → IsCount size width → IsBased digits bits → IsNumber (size ∷ digits ∷ []) (at_width width bits)
+  based : (digits : Tok) (bits : List Bool) → IsBased digits bits → list_all not (drop 32 bits) ≡ true
+      → IsNumber (digits ∷ []) (at_width 32 bits)
+  sized : (size digits : Tok) (width : ℕ) (bits : List Bool) → IsCount size width → IsBased digits bits
+      → IsNumber (size ∷ digits ∷ []) (at_width width bits)

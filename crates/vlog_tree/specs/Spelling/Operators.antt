@@ -19,7 +19,8 @@ unary_operator text =
     else (if bytes_eq text (codes "~^") || bytes_eq text (codes "^~") then Some unary.RedXnor
     else None)))))))
 
--- the binary operator with this text and its level, of which 1 binds tightest: `== !=`, then `&`, then `^ ~^ ^~`, then `|`, then `&&`, then `||`
+-- the binary operator with this text and its level, of which 1 binds tightest: `== !=`, then `&`, then `^ ~^ ^~`, then
+-- `|`, then `&&`, then `||`
 abbrev pub binary_operator : List ℕ → Option (ℕ × BinOp)
 binary_operator text =
     if bytes_eq text (codes "==") then Some (1, binary.Eq)

@@ -65,23 +65,27 @@ Optional Spelled ts (Some a) = Spelled ts a
 -- x*
 pub data Many {A : Type 0} (Spelled : List Tok → A → Type 0) : List Tok → List A → Type 0 where
   none : Many Spelled [] []
-  next : (first rest : List Tok) (a : A) (others : List A) → Spelled first a → Many Spelled rest others → Many Spelled (first ++ rest) (a ∷ others)
+  next : (first rest : List Tok) (a : A) (others : List A) → Spelled first a → Many Spelled rest others
+      → Many Spelled (first ++ rest) (a ∷ others)
 
 -- x,+
 pub data Commas {A : Type 0} (Spelled : List Tok → A → Type 0) : List Tok → List A → Type 0 where
   last : (only : List Tok) (a : A) → Spelled only a → Commas Spelled only (a ∷ [])
-  next : (first : List Tok) (comma : Tok) (rest : List Tok) (a : A) (others : List A) → Spelled first a → Is (codes ",") comma → Commas Spelled rest others
+  next : (first : List Tok) (comma : Tok) (rest : List Tok) (a : A) (others : List A) → Spelled first a
+      → Is (codes ",") comma → Commas Spelled rest others
       → Commas Spelled (first ++ comma ∷ rest) (a ∷ others)
 
 -- range = "[" decimal ":" decimal "]"
 pub data IsRange : List Tok → Range → Type 0 where
-  range : (opening left colon right closing : Tok) (high low : ℕ) → Is (codes "[") opening → IsDecimal left high → Is (codes ":") colon → IsDecimal right low → Is (codes "]") closing
+  range : (opening left colon right closing : Tok) (high low : ℕ) → Is (codes "[") opening → IsDecimal left high
+      → Is (codes ":") colon → IsDecimal right low → Is (codes "]") closing
       → IsRange (opening ∷ left ∷ colon ∷ right ∷ closing ∷ []) (record { left = high; right = low })
 
 -- delay = "#" decimal | "#" "(" decimal,+ ")"
 pub data IsDelay : List Tok → Type 0 where
   single : (hash value : Tok) (n : ℕ) → Is (codes "#") hash → IsDecimal value n → IsDelay (hash ∷ value ∷ [])
-  several : (hash opening closing : Tok) (values : List Tok) (ns : List ℕ) → Is (codes "#") hash → Is (codes "(") opening → Commas (One IsDecimal) values ns → Is (codes ")") closing
+  several : (hash opening closing : Tok) (values : List Tok) (ns : List ℕ) → Is (codes "#") hash
+      → Is (codes "(") opening → Commas (One IsDecimal) values ns → Is (codes ")") closing
       → IsDelay (hash ∷ opening ∷ (values ++ closing ∷ []))
 
 -- delay?, which stands for nothing in the tree

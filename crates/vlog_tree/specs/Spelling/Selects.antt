@@ -13,5 +13,6 @@ pub data Select : Type 0 where
 -- what stands after the name: nothing | "[" decimal "]" | range
 pub data IsSelect : List Tok → Select → Type 0 where
   none : IsSelect [] whole
-  index : (opening digits closing : Tok) (place : ℕ) → Is (codes "[") opening → IsDecimal digits place → Is (codes "]") closing → IsSelect (opening ∷ digits ∷ closing ∷ []) (bit place)
+  index : (opening digits closing : Tok) (place : ℕ) → Is (codes "[") opening → IsDecimal digits place
+      → Is (codes "]") closing → IsSelect (opening ∷ digits ∷ closing ∷ []) (bit place)
   range : (ts : List Tok) (r : Range) → IsRange ts r → IsSelect ts (part r)

@@ -25,7 +25,8 @@ BeginsBased (tok ∷ rest) = tok.kind ≡ Based
 abbrev pub IsParted : List Tok → List Tok → Type 0
 IsParted before after = EndsInDecimal before → BeginsBased after → ⊥
 
--- The statements that stand inside of this one are given. The truth value says whether it ends in an `if` without `else`, to which an `else` after it would belong.
+-- The statements that stand inside of this one are given. The truth value says whether it ends in an `if` without
+-- `else`, to which an `else` after it would belong.
 module _ (Inner : Bool → List Tok → Stmt → Type 0) where
   -- a statement of either kind
   abbrev pub Either : List Tok → Stmt → Type 0
@@ -35,17 +36,23 @@ module _ (Inner : Bool → List Tok → Stmt → Type 0) where
     -- ";"
     empty : (semi : Tok) → Is (codes ";") semi → Statement false (semi ∷ []) stmt.Empty
     -- "begin" stmt* "end"
-    block : (begin last : Tok) (ts : List Tok) (inner : List Stmt) → Is (codes "begin") begin → Many Either ts inner → Is (codes "end") last
+    block : (begin last : Tok) (ts : List Tok) (inner : List Stmt) → Is (codes "begin") begin → Many Either ts inner
+        → Is (codes "end") last
         → Statement false (begin ∷ (ts ++ last ∷ [])) (stmt.Block inner)
     -- "if" "(" expr ")" stmt
-    only : (word opening closing : Tok) (condition ts : List Tok) (cond : Expr) (first : Stmt) → Is (codes "if") word → Is (codes "(") opening → SpellsExpr condition cond → Is (codes ")") closing
+    only : (word opening closing : Tok) (condition ts : List Tok) (cond : Expr) (first : Stmt) → Is (codes "if") word
+        → Is (codes "(") opening → SpellsExpr condition cond → Is (codes ")") closing
         → Either ts first → Statement true (word ∷ opening ∷ (condition ++ closing ∷ ts)) (stmt.If cond first None)
     -- "if" "(" expr ")" stmt "else" stmt
-    both : (word opening closing other : Tok) (condition ts us : List Tok) (cond : Expr) (first second : Stmt) (dangling : Bool) → Is (codes "if") word → Is (codes "(") opening → SpellsExpr condition cond → Is (codes ")") closing
+    both : (word opening closing other : Tok) (condition ts us : List Tok) (cond : Expr) (first second : Stmt)
+        (dangling : Bool) → Is (codes "if") word → Is (codes "(") opening → SpellsExpr condition cond
+        → Is (codes ")") closing
         → Inner false ts first → Is (codes "else") other → Inner dangling us second
-        → Statement dangling (word ∷ opening ∷ (condition ++ closing ∷ (ts ++ other ∷ us))) (stmt.If cond first (Some second))
+        → Statement dangling (word ∷ opening ∷ (condition ++ closing ∷ (ts ++ other ∷ us)))
+        (stmt.If cond first (Some second))
     -- left "<=" delay? expr ";"
-    set : (arrow semi : Tok) (front delay back : List Tok) (target : Left) (right : Expr) → SpellsLeft front target → Is (codes "<=") arrow → IsAnyDelay delay → SpellsExpr back right → IsParted delay back → Is (codes ";") semi
+    set : (arrow semi : Tok) (front delay back : List Tok) (target : Left) (right : Expr) → SpellsLeft front target
+        → Is (codes "<=") arrow → IsAnyDelay delay → SpellsExpr back right → IsParted delay back → Is (codes ";") semi
         → Statement false (front ++ arrow ∷ (delay ++ (back ++ semi ∷ []))) (stmt.Set (place_of front) target right)
 
 -- A statement in which statements nest less deep than the number.
