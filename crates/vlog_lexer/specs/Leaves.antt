@@ -4,10 +4,13 @@ use Rattle.std.specs.List.{list_any}
 use Rattle.vlog_tokens.specs.Attributes.{closes, opens, without_attributes}
 use Rattle.vlog_tokens.specs.Toks.{Tok}
 
--- No attribute is open, or one is: its `(*` has this number among the tokens that are left, and no token after it closes it.
+-- No attribute is open, or one is: its `(*` has this number among the tokens that are left, and no token after it
+-- closes it.
 abbrev pub IsOpen : Option ℕ → List Tok → List Tok → Type 0
 IsOpen None before pending = pending ≡ []
-IsOpen (Some n) before pending = (first : Tok) × (rest : List Tok) × (n ≡ length before) × (pending ≡ first ∷ rest) × (opens first ≡ true) × (list_any closes rest ≡ false)
+IsOpen (Some n) before pending =
+    (first : Tok) × (rest : List Tok) × (n ≡ length before) × (pending ≡ first ∷ rest) × (opens first ≡ true)
+    × (list_any closes rest ≡ false)
 
 -- Of the tokens so far these are left, the last of them from an open `(*` on, if there is one.
 pub record Leaves (raw left : List Tok) (opened : Option ℕ) : Type 0 where

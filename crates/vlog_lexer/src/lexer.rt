@@ -49,7 +49,8 @@ impl<'a> Tokens<'a> {
 pub fn lex<'a>(alloc: Global, src: &'a [u8]) -> Result<Tokens<'a>, LexFault>
     ensures spelled { IfOk result (λ tokens. AreTokens src.now tokens.list × (tokens.source_len ≡ length src.now)) }
     ensures refused { IfErr result (λ fault. FailsAt src.now fault ⊎ (fault ≡ Memory)) }
-    ensures whole { (tokens : List Tok) → AreTokens src.now tokens → (result ≡ Ok (record { list = tokens; source_len = length src.now })) ⊎ (result ≡ Err Memory) }
+    ensures whole { (tokens : List Tok) → AreTokens src.now tokens
+        → (result ≡ Ok (record { list = tokens; source_len = length src.now })) ⊎ (result ≡ Err Memory) }
     ensures fails { (fault : LexFault) → FailsAt src.now fault → (result ≡ Err fault) ⊎ (result ≡ Err Memory) }
 {
     let mut kept = Kept::new(alloc);

@@ -1,5 +1,5 @@
-//! The tokens of a netlist (IEEE 1364-2005, clause 3): which bytes of a source are blank, which are one token, and what an
-//! attribute drops.
+//! The tokens of a netlist (IEEE 1364-2005, clause 3): which bytes of a source are blank, which are one token, and what
+//! an attribute drops.
 #![tactic(auto)]
 
 mod class;

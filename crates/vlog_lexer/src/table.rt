@@ -1,15 +1,10 @@
-//! Whether a text stands in the tables of marks and of directives.
-ghost use Rattle.std.specs.Prelude.{◌↔◌, Contains, IsTrue};
+//! Whether a text stands in the tables of marks and of directives. A mark is told by those that begin with its first
+//! byte.
+ghost use Rattle.std.specs.Prelude.{◌≡◌, ◌↔◌, Contains, IsTrue, filter, map};
 ghost use Rattle.vlog_tokens.specs.Tables.{directives, marks};
+ghost use Rattle.vlog_words.specs.Words.{begins_with};
 
 use vlog_words::is_among;
-
-// Punctuation and operators.
-const MARKS: [&str; 37] = [
-    "(*", "*)", "<=", "==", "!=", "&&", "||", "~&", "~|", "~^", "^~", "(", ")", "[", "]", "{", "}",
-    ",", ";", ":", ".", "#", "@", "=", "?", "~", "!", "&", "|", "^", "<", ">", "+", "-", "*", "/",
-    "%",
-];
 
 // The directives that make their line blank.
 const DIRECTIVES: [&str; 5] = [
@@ -24,7 +19,45 @@ const DIRECTIVES: [&str; 5] = [
 pub fn is_mark(text: &[u8]) -> bool
     ensures { IsTrue result ↔ Contains marks text.now }
 {
-    is_among(&MARKS, text)
+    match text {
+        [first, ..] => is_among(mark_row(*first), text),
+        [] => false,
+    }
+}
+
+// The marks that begin with this byte.
+fn mark_row(first: u8) -> &'static [&'static str]
+    ensures { map (λ word. word.now) result.now ≡ filter (begins_with first) marks }
+{
+    match first {
+        b'(' => &["(*", "("],
+        b'*' => &["*)", "*"],
+        b'<' => &["<=", "<"],
+        b'=' => &["==", "="],
+        b'!' => &["!=", "!"],
+        b'&' => &["&&", "&"],
+        b'|' => &["||", "|"],
+        b'~' => &["~&", "~|", "~^", "~"],
+        b'^' => &["^~", "^"],
+        b')' => &[")"],
+        b'[' => &["["],
+        b']' => &["]"],
+        b'{' => &["{"],
+        b'}' => &["}"],
+        b',' => &[","],
+        b';' => &[";"],
+        b':' => &[":"],
+        b'.' => &["."],
+        b'#' => &["#"],
+        b'@' => &["@"],
+        b'?' => &["?"],
+        b'>' => &[">"],
+        b'+' => &["+"],
+        b'-' => &["-"],
+        b'/' => &["/"],
+        b'%' => &["%"],
+        _ => &[],
+    }
 }
 
 /// Whether the text is the word of a directive.

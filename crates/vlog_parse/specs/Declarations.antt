@@ -26,7 +26,9 @@ at_word text one other = λ ts. if sees text ts then one ts else other ts
 
 -- dir
 unfoldable pub direction : Parser Dir
-direction = at_word (codes "input") (expect (codes "input") >> pure Input) (at_word (codes "output") (expect (codes "output") >> pure Output) refuse)
+direction =
+    at_word (codes "input") (expect (codes "input") >> pure Input)
+    (at_word (codes "output") (expect (codes "output") >> pure Output) refuse)
 
 -- whether a direction is next
 abbrev pub is_direction : List Tok → Bool
@@ -34,7 +36,9 @@ is_direction ts = sees (codes "input") ts || sees (codes "output") ts
 
 -- kind?
 unfoldable pub net_kind : Parser NetKind
-net_kind = at_word (codes "wire") (expect (codes "wire") >> pure Wire) (at_word (codes "reg") (expect (codes "reg") >> pure Reg) (pure Plain))
+net_kind =
+    at_word (codes "wire") (expect (codes "wire") >> pure Wire)
+    (at_word (codes "reg") (expect (codes "reg") >> pure Reg) (pure Plain))
 
 -- range?
 unfoldable pub any_range : Parser (Option Range)

@@ -26,7 +26,8 @@ reference = do
   taken ← select
   pure (named (select_of taken) at text)
 
--- The second brace of a replication. A decimal may be a number by itself, so it is here that one outside the bounds of a count does not fit.
+-- The second brace of a replication. A decimal may be a number by itself, so it is here that one outside the bounds of
+-- a count does not fit.
 unfoldable pub inner_brace : ℕ → Parser Tok
 inner_brace times = if is_size times then expect (codes "{") else refuse
 

@@ -98,7 +98,8 @@ ordered_link depth = do
 
 -- link,+ | olink,+, where a link is told by its dot
 abbrev pub some_links : ℕ → Parser (List Link)
-some_links depth = λ ts. if sees (codes ".") ts then separated (named_link depth) ts else separated (ordered_link depth) ts
+some_links depth =
+    λ ts. if sees (codes ".") ts then separated (named_link depth) ts else separated (ordered_link depth) ts
 
 -- nothing, or links
 unfoldable pub links : ℕ → Parser (List Link)

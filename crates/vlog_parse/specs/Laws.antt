@@ -6,4 +6,5 @@ use Rattle.vlog_tree.specs.Spelling.Modules.{IsDesign}
 
 -- Tokens spell one design at most.
 abbrev pub IsOneDesignOfTokens : Type 0
-IsOneDesignOfTokens = (tokens : List Tok) (one other : Design) → IsDesign tokens one → IsDesign tokens other → one ≡ other
+IsOneDesignOfTokens =
+    (tokens : List Tok) (one other : Design) → IsDesign tokens one → IsDesign tokens other → one ≡ other

@@ -17,7 +17,11 @@ use Rattle.vlog_parse.specs.declared.port.Ports.{Ports}
 unfoldable pub add_port : Ports → Parser Ports
 add_port ports = do
   declared ← register ports.shape.kind
-  pure (record { shape = ports.shape; names = ports.names ++ declared.name ∷ []; items = ports.items ++ spelling.register_items ports.shape declared })
+  pure (record {
+    shape = ports.shape;
+    names = ports.names ++ declared.name ∷ [];
+    items = ports.items ++ spelling.register_items ports.shape declared;
+  })
 
 -- the shape of the next port: its own if a direction stands there, and else that of the one before
 abbrev pub next_shape : spelling.Shape → Parser spelling.Shape

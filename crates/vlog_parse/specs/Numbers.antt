@@ -17,7 +17,8 @@ decimal_number = do
 unfoldable pub unsized_number : Parser (List Bool)
 unsized_number = take_if unsized_of
 
--- The based token behind a size. A decimal may be a number by itself, so it is here that one outside the bounds of a size does not fit.
+-- The based token behind a size. A decimal may be a number by itself, so it is here that one outside the bounds of a
+-- size does not fit.
 unfoldable pub sized_digits : ℕ → Parser (List Bool)
 sized_digits width = if is_size width then take_if (sized_of width) else refuse
 

@@ -8,7 +8,8 @@ use Rattle.vlog_tree.specs.declared.design.Design.{Design}
 abbrev pub SpellNothing : List Tok → Type 0
 SpellNothing ts = (design : Design) → IsDesign ts design → ⊥
 
--- A token stands at this place that does not fit: no list of tokens that begins with those up to and with it spells a design.
+-- A token stands at this place that does not fit: no list of tokens that begins with those up to and with it spells a
+-- design.
 pub record IsMisfit (ts : List Tok) (at : ℕ) : Type 0 where
   pub front : List Tok
   pub tok : Tok

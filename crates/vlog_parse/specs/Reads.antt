@@ -74,7 +74,8 @@ here = λ ts. Ok (place_of ts, ts)
 
 unfoldable pub loop_from : {S : Type 0} → (List Tok → Bool) → (S → Parser S) → ℕ → S → Parser S
 loop_from goes step zero state = refuse
-loop_from goes step (suc turns) state = λ ts. if goes ts then (step state >>= loop_from goes step turns) ts else Ok (state, ts)
+loop_from goes step (suc turns) state =
+    λ ts. if goes ts then (step state >>= loop_from goes step turns) ts else Ok (state, ts)
 
 -- one step more as long as the next token asks for it
 unfoldable pub loop : {S : Type 0} → (List Tok → Bool) → (S → Parser S) → S → Parser S

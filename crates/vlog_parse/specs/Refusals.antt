@@ -20,10 +20,12 @@ IsMissed tokens (fault.Syntax at) = SpellNothing tokens.list × IsPlace tokens a
 IsMissed tokens fault.Memory = Unit {0}
 IsMissed tokens other = ⊥
 
--- The first that applies, in this order: a word outside the profile, a number outside the rules, a token too deep, tokens that spell nothing.
+-- The first that applies, in this order: a word outside the profile, a number outside the rules, a token too deep,
+-- tokens that spell nothing.
 abbrev pub IsCause : Lexed → ParseFault → Type 0
 IsCause tokens (fault.Outside at) = outside_at tokens.list ≡ Some at
 IsCause tokens (fault.Number at) = (outside_at tokens.list ≡ None) × (number_fault_at tokens.list ≡ Some at)
-IsCause tokens (fault.TooDeep at) = (outside_at tokens.list ≡ None) × (number_fault_at tokens.list ≡ None) × (too_deep_at tokens.list ≡ Some at)
+IsCause tokens (fault.TooDeep at) =
+    (outside_at tokens.list ≡ None) × (number_fault_at tokens.list ≡ None) × (too_deep_at tokens.list ≡ Some at)
 IsCause tokens (fault.Syntax at) = IsInProfile tokens.list × SpellNothing tokens.list × IsPlace tokens at
 IsCause tokens fault.Memory = Unit {0}

@@ -76,7 +76,8 @@ pub fn chain<F: Fn(&mut Cursor<'_, '_>) -> Result<Expr, Fault>>(
     operand: F,
 ) -> Result<Expr, Fault>
     requires { IsReader (F.pre operand) (F.post operand) }
-    ensures reads { (rule : Parser Expr) → IsRule rule (F.post operand) → Reads (spec.chain level rule cursor.old) result cursor.new }
+    ensures reads { (rule : Parser Expr) → IsRule rule (F.post operand)
+        → Reads (spec.chain level rule cursor.old) result cursor.new }
     ensures consumes { OnOk result (length cursor.new < length cursor.old) }
 {
     let mut whole = operand(cursor)?;
@@ -101,7 +102,8 @@ fn operation<F: Fn(&mut Cursor<'_, '_>) -> Result<Expr, Fault>>(
     left: Expr,
 ) -> Result<Expr, Fault>
     requires { IsReader (F.pre operand.now) (F.post operand.now) }
-    ensures reads { (rule : Parser Expr) → IsRule rule (F.post operand.now) → Reads (spec.operation level rule left cursor.old) result cursor.new }
+    ensures reads { (rule : Parser Expr) → IsRule rule (F.post operand.now)
+        → Reads (spec.operation level rule left cursor.old) result cursor.new }
     ensures consumes { OnOk result (length cursor.new < length cursor.old) }
 {
     let op = one_binary(cursor, level)?;

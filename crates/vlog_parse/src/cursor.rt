@@ -15,7 +15,8 @@ use std::marker::Model;
 use vlog_numbers::{Fault, decimal_between, is_terminal, name_of, terminal};
 use vlog_tokens::{Token, TokenKind};
 
-/// The tokens that are left, seen by contracts as their list. A rule that fails leaves it at the token that does not fit.
+/// The tokens that are left, seen by contracts as their list. A rule that fails leaves it at the token that does not
+/// fit.
 #[derive(Drop)]
 pub struct Cursor<'t, 'a> {
     rest: &'t [Token<'a>],

@@ -78,7 +78,8 @@ fn register_list(
     cursor: &mut Cursor<'_, '_>,
     shape: Shape,
 ) -> Result<Items<Item>, Fault>
-    ensures reads { Reads (gathers.gathered (spelling.register_items shape) (spec.register shape.kind) cursor.old) result cursor.new }
+    ensures reads { Reads (gathers.gathered (spelling.register_items shape) (spec.register shape.kind) cursor.old)
+        result cursor.new }
     ensures consumes { OnOk result (length cursor.new < length cursor.old) }
 {
     let mut items = Items::new(alloc);
@@ -96,7 +97,9 @@ fn add_register_after_comma(
     shape: Shape,
     items: &mut Items<Item>,
 ) -> Result<(), Fault>
-    ensures reads { ReadsInto (gathers.add_after_comma (spelling.register_items shape) (spec.register shape.kind) items.old cursor.old) result items.new cursor.new }
+    ensures reads { ReadsInto
+        (gathers.add_after_comma (spelling.register_items shape) (spec.register shape.kind) items.old cursor.old)
+        result items.new cursor.new }
     ensures consumes { OnOk result (length cursor.new < length cursor.old) }
 {
     cursor.expect(",")?;
@@ -110,7 +113,9 @@ fn add_register(
     shape: Shape,
     items: &mut Items<Item>,
 ) -> Result<(), Fault>
-    ensures reads { ReadsInto (gathers.add (spelling.register_items shape) (spec.register shape.kind) items.old cursor.old) result items.new cursor.new }
+    ensures reads { ReadsInto
+        (gathers.add (spelling.register_items shape) (spec.register shape.kind) items.old cursor.old)
+        result items.new cursor.new }
     ensures consumes { OnOk result (length cursor.new < length cursor.old) }
 {
     let declared = register(alloc, cursor, shape.kind)?;
@@ -141,7 +146,8 @@ fn wire_list(
     depth: usize,
     shape: Shape,
 ) -> Result<Items<Item>, Fault>
-    ensures reads { Reads (gathers.gathered (spelling.wire_items shape) (spec.wire depth) cursor.old) result cursor.new }
+    ensures reads { Reads (gathers.gathered (spelling.wire_items shape) (spec.wire depth) cursor.old)
+        result cursor.new }
     ensures consumes { OnOk result (length cursor.new < length cursor.old) }
 {
     let mut items = Items::new(alloc);
@@ -160,7 +166,9 @@ fn add_wire_after_comma(
     shape: Shape,
     items: &mut Items<Item>,
 ) -> Result<(), Fault>
-    ensures reads { ReadsInto (gathers.add_after_comma (spelling.wire_items shape) (spec.wire depth) items.old cursor.old) result items.new cursor.new }
+    ensures reads { ReadsInto
+        (gathers.add_after_comma (spelling.wire_items shape) (spec.wire depth) items.old cursor.old)
+        result items.new cursor.new }
     ensures consumes { OnOk result (length cursor.new < length cursor.old) }
 {
     cursor.expect(",")?;
@@ -175,7 +183,8 @@ fn add_wire(
     shape: Shape,
     items: &mut Items<Item>,
 ) -> Result<(), Fault>
-    ensures reads { ReadsInto (gathers.add (spelling.wire_items shape) (spec.wire depth) items.old cursor.old) result items.new cursor.new }
+    ensures reads { ReadsInto (gathers.add (spelling.wire_items shape) (spec.wire depth) items.old cursor.old)
+        result items.new cursor.new }
     ensures consumes { OnOk result (length cursor.new < length cursor.old) }
 {
     let declared = wire(alloc, cursor, depth)?;

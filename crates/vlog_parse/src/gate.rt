@@ -147,7 +147,8 @@ fn more_outputs(
     depth: usize,
     found: &mut Items<Left>,
 ) -> Result<(), Fault>
-    ensures reads { ReadsInto (loop (spec.is_output depth) (one_more (spec.output depth)) found.old cursor.old) result found.new cursor.new }
+    ensures reads { ReadsInto (loop (spec.is_output depth) (one_more (spec.output depth)) found.old cursor.old)
+        result found.new cursor.new }
     ensures shrinks { OnOk result (length cursor.new ≤ length cursor.old) }
 {
     while let Some(next) = next_output(alloc, cursor, depth)? {

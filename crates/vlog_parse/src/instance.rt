@@ -94,7 +94,9 @@ fn more_links(
     depth: usize,
     found: &mut Items<Link>,
 ) -> Result<(), Fault>
-    ensures reads { ReadsInto (loop (sees (codes ",")) (one_more_after_comma (spec.ordered_link depth)) found.old cursor.old) result found.new cursor.new }
+    ensures reads { ReadsInto
+        (loop (sees (codes ",")) (one_more_after_comma (spec.ordered_link depth)) found.old cursor.old)
+        result found.new cursor.new }
     ensures shrinks { OnOk result (length cursor.new ≤ length cursor.old) }
 {
     while cursor.sees(",") {
@@ -110,7 +112,8 @@ fn next_link(
     depth: usize,
     found: &mut Items<Link>,
 ) -> Result<(), Fault>
-    ensures reads { ReadsInto (one_more_after_comma (spec.ordered_link depth) found.old cursor.old) result found.new cursor.new }
+    ensures reads { ReadsInto (one_more_after_comma (spec.ordered_link depth) found.old cursor.old)
+        result found.new cursor.new }
     ensures consumes { OnOk result (length cursor.new < length cursor.old) }
 {
     cursor.expect(",")?;

@@ -43,7 +43,8 @@ fn target<F: Fn(&mut Cursor<'_, '_>) -> Result<Left, Fault>>(
     inner: F,
 ) -> Result<Left, Fault>
     requires { IsReader (F.pre inner) (F.post inner) }
-    ensures reads { (rule : Parser tree.Left) → IsRule rule (F.post inner) → Reads (spec.target rule cursor.old) result cursor.new }
+    ensures reads { (rule : Parser tree.Left) → IsRule rule (F.post inner)
+        → Reads (spec.target rule cursor.old) result cursor.new }
     ensures consumes { OnOk result (length cursor.new < length cursor.old) }
 {
     if cursor.sees("{") {
@@ -61,7 +62,8 @@ fn join<F: Fn(&mut Cursor<'_, '_>) -> Result<Left, Fault>>(
     inner: F,
 ) -> Result<Left, Fault>
     requires { IsReader (F.pre inner) (F.post inner) }
-    ensures reads { (rule : Parser tree.Left) → IsRule rule (F.post inner) → Reads (spec.join rule cursor.old) result cursor.new }
+    ensures reads { (rule : Parser tree.Left) → IsRule rule (F.post inner)
+        → Reads (spec.join rule cursor.old) result cursor.new }
     ensures consumes { OnOk result (length cursor.new < length cursor.old) }
 {
     cursor.expect("{")?;

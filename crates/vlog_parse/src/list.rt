@@ -18,7 +18,8 @@ pub fn separated<T: Drop, F: Fn(&mut Cursor<'_, '_>) -> Result<T, Fault>>(
     item: F,
 ) -> Result<Items<T>, Fault>
     requires { IsReader (F.pre item) (F.post item) }
-    ensures reads { (rule : Parser T) → IsRule rule (F.post item) → Reads (spec.separated rule cursor.old) result cursor.new }
+    ensures reads { (rule : Parser T) → IsRule rule (F.post item)
+        → Reads (spec.separated rule cursor.old) result cursor.new }
     ensures consumes { OnOk result (length cursor.new < length cursor.old) }
 {
     let mut found = Items::new(alloc);
@@ -38,7 +39,8 @@ pub fn repeated_until<T: Drop, F: Fn(&mut Cursor<'_, '_>) -> Result<T, Fault>>(
     item: F,
 ) -> Result<Items<T>, Fault>
     requires { IsReader (F.pre item) (F.post item) }
-    ensures reads { (rule : Parser T) → IsRule rule (F.post item) → Reads (spec.repeated_until stop.now rule cursor.old) result cursor.new }
+    ensures reads { (rule : Parser T) → IsRule rule (F.post item)
+        → Reads (spec.repeated_until stop.now rule cursor.old) result cursor.new }
     ensures shrinks { OnOk result (length cursor.new ≤ length cursor.old) }
 {
     let mut found = Items::new(alloc);
@@ -55,7 +57,8 @@ fn one_more_after_comma<T: Drop, F: Fn(&mut Cursor<'_, '_>) -> Result<T, Fault>>
     found: &mut Items<T>,
 ) -> Result<(), Fault>
     requires { IsReader (F.pre item.now) (F.post item.now) }
-    ensures reads { (rule : Parser T) → IsRule rule (F.post item.now) → ReadsInto (spec.one_more_after_comma rule found.old cursor.old) result found.new cursor.new }
+    ensures reads { (rule : Parser T) → IsRule rule (F.post item.now)
+        → ReadsInto (spec.one_more_after_comma rule found.old cursor.old) result found.new cursor.new }
     ensures consumes { OnOk result (length cursor.new < length cursor.old) }
 {
     cursor.expect(",")?;
@@ -69,7 +72,8 @@ fn one_more<T: Drop, F: Fn(&mut Cursor<'_, '_>) -> Result<T, Fault>>(
     found: &mut Items<T>,
 ) -> Result<(), Fault>
     requires { IsReader (F.pre item.now) (F.post item.now) }
-    ensures reads { (rule : Parser T) → IsRule rule (F.post item.now) → ReadsInto (spec.one_more rule found.old cursor.old) result found.new cursor.new }
+    ensures reads { (rule : Parser T) → IsRule rule (F.post item.now)
+        → ReadsInto (spec.one_more rule found.old cursor.old) result found.new cursor.new }
     ensures consumes { OnOk result (length cursor.new < length cursor.old) }
 {
     let next = item(cursor)?;

@@ -41,7 +41,8 @@ fn one_more(
     depth: usize,
     found: &mut Items<Module>,
 ) -> Result<(), Fault>
-    ensures reads { ReadsInto (reads.one_more (spec.module_rule depth) found.old cursor.old) result found.new cursor.new }
+    ensures reads { ReadsInto (reads.one_more (spec.module_rule depth) found.old cursor.old)
+        result found.new cursor.new }
     ensures consumes { OnOk result (length cursor.new < length cursor.old) }
 {
     let next = module_rule(alloc, cursor, depth)?;
@@ -78,7 +79,9 @@ fn body(
     depth: usize,
     items: &mut Items<Item>,
 ) -> Result<(), Fault>
-    ensures reads { ReadsInto (gathers.gathered_until (codes "endmodule") (λ group. group) (rule.item depth) items.old cursor.old) result items.new cursor.new }
+    ensures reads { ReadsInto
+        (gathers.gathered_until (codes "endmodule") (λ group. group) (rule.item depth) items.old cursor.old)
+        result items.new cursor.new }
     ensures shrinks { OnOk result (length cursor.new ≤ length cursor.old) }
 {
     while !cursor.sees("endmodule") {
@@ -94,7 +97,8 @@ fn add_item(
     depth: usize,
     items: &mut Items<Item>,
 ) -> Result<(), Fault>
-    ensures reads { ReadsInto (gathers.add (λ group. group) (rule.item depth) items.old cursor.old) result items.new cursor.new }
+    ensures reads { ReadsInto (gathers.add (λ group. group) (rule.item depth) items.old cursor.old)
+        result items.new cursor.new }
     ensures consumes { OnOk result (length cursor.new < length cursor.old) }
 {
     let group = item(alloc, cursor, depth)?;

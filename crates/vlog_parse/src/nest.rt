@@ -1,20 +1,12 @@
 //! How deep tokens nest.
-ghost use Rattle.std.specs.Prelude.{◌≡◌, ◌≤◌, ◌+◌};
+ghost use Rattle.std.specs.Prelude.{◌≡◌, ◌≤◌, ◌+◌, filter, map};
 ghost use Rattle.vlog_tokens.specs.Toks.{toks};
-ghost use Rattle.vlog_words.specs.Words.{is_text_among};
+ghost use Rattle.vlog_words.specs.Words.{begins_with, is_text_among};
 ghost use Rattle.vlog_parse.specs.Nest as spec;
 
 use vlog_numbers::terminal;
 use vlog_tokens::Token;
 use vlog_words::is_among;
-
-const OPENINGS: [&str; 3] = ["(", "{", "begin"];
-
-const CLOSINGS: [&str; 3] = [")", "}", "end"];
-
-const OPERATORS: [&str; 14] = [
-    "~", "!", "&", "|", "^", "&&", "||", "==", "!=", "~&", "~|", "~^", "^~", "?",
-];
 
 /// The place of the first token at which the nest count passes 500.
 pub fn too_deep_at(tokens: &[Token]) -> Option<u64>
@@ -83,17 +75,63 @@ fn ifs_after(count: u32, text: &[u8]) -> u32
 fn is_opening(text: &[u8]) -> bool
     ensures { result ≡ is_text_among spec.openings text.now }
 {
-    is_among(&OPENINGS, text)
+    match text {
+        [first, ..] => is_among(opening_row(*first), text),
+        [] => false,
+    }
+}
+
+fn opening_row(first: u8) -> &'static [&'static str]
+    ensures { map (λ word. word.now) result.now ≡ filter (begins_with first) spec.openings }
+{
+    match first {
+        b'(' => &["("],
+        b'{' => &["{"],
+        b'b' => &["begin"],
+        _ => &[],
+    }
 }
 
 fn is_closing(text: &[u8]) -> bool
     ensures { result ≡ is_text_among spec.closings text.now }
 {
-    is_among(&CLOSINGS, text)
+    match text {
+        [first, ..] => is_among(closing_row(*first), text),
+        [] => false,
+    }
+}
+
+fn closing_row(first: u8) -> &'static [&'static str]
+    ensures { map (λ word. word.now) result.now ≡ filter (begins_with first) spec.closings }
+{
+    match first {
+        b')' => &[")"],
+        b'}' => &["}"],
+        b'e' => &["end"],
+        _ => &[],
+    }
 }
 
 fn is_operator(text: &[u8]) -> bool
     ensures { result ≡ is_text_among spec.operators text.now }
 {
-    is_among(&OPERATORS, text)
+    match text {
+        [first, ..] => is_among(operator_row(*first), text),
+        [] => false,
+    }
+}
+
+fn operator_row(first: u8) -> &'static [&'static str]
+    ensures { map (λ word. word.now) result.now ≡ filter (begins_with first) spec.operators }
+{
+    match first {
+        b'~' => &["~", "~&", "~|", "~^"],
+        b'!' => &["!", "!="],
+        b'&' => &["&", "&&"],
+        b'|' => &["|", "||"],
+        b'^' => &["^", "^~"],
+        b'=' => &["=="],
+        b'?' => &["?"],
+        _ => &[],
+    }
 }

@@ -52,7 +52,8 @@ fn sized_number(alloc: Global, cursor: &mut Cursor<'_, '_>) -> Result<Bits, Faul
     sized_digits(alloc, cursor, width)
 }
 
-// The based token behind a size. A decimal may be a number by itself, so one outside the bounds of a size does not fit here.
+// The based token behind a size. A decimal may be a number by itself, so one outside the bounds of a size does not fit
+// here.
 #[tactic(auto, unfolding(crate::specs::Numbers::sized_digits))]
 fn sized_digits(alloc: Global, cursor: &mut Cursor<'_, '_>, width: u32) -> Result<Bits, Fault>
     ensures reads { Reads (spec.sized_digits width cursor.old) result cursor.new }

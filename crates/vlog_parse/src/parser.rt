@@ -16,13 +16,14 @@ use vlog_lexer::Tokens;
 use vlog_numbers::{Fault, number_fault_at};
 use vlog_tree::Design;
 
-/// The design that the tokens spell, or the first reason that applies: a reserved word outside the profile, a number outside
-/// the rules, a token too deep, tokens that spell nothing. The place of the last reason is that of a token after which
-/// nothing can follow that mends it, or the source's length where a token is missing.
+/// The design that the tokens spell, or the first reason that applies: a reserved word outside the profile, a number
+/// outside the rules, a token too deep, tokens that spell nothing. The place of the last reason is that of a token
+/// after which nothing can follow that mends it, or the source's length where a token is missing.
 pub fn parse(alloc: Global, tokens: &Tokens) -> Result<Design, ParseFault>
     ensures spelled { IfOk result (λ design. IsDesign tokens.now.list design × IsInProfile tokens.now.list) }
     ensures refused { IfErr result (λ fault. IsCause tokens.now fault) }
-    ensures whole { (design : tree.Design) → IsDesign tokens.now.list design → IsInProfile tokens.now.list → (result ≡ Ok design) ⊎ (result ≡ Err Memory) }
+    ensures whole { (design : tree.Design) → IsDesign tokens.now.list design → IsInProfile tokens.now.list
+        → (result ≡ Ok design) ⊎ (result ≡ Err Memory) }
 {
     let list = tokens.list();
     if let Some(at) = outside_at(list) {
@@ -40,7 +41,8 @@ pub fn parse(alloc: Global, tokens: &Tokens) -> Result<Design, ParseFault>
 // The design that the tokens spell, or else the first token that does not fit.
 fn spelled_design(alloc: Global, tokens: &Tokens) -> Result<Design, ParseFault>
     ensures spelled { IfOk result (λ design. IsDesign tokens.now.list design) }
-    ensures whole { (design : tree.Design) → IsDesign tokens.now.list design → (result ≡ Ok design) ⊎ (result ≡ Err Memory) }
+    ensures whole { (design : tree.Design) → IsDesign tokens.now.list design
+        → (result ≡ Ok design) ⊎ (result ≡ Err Memory) }
     ensures refused { IfErr result (λ fault. IsMissed tokens.now fault) }
 {
     let list = tokens.list();

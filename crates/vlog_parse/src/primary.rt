@@ -50,7 +50,8 @@ fn named(taken: Selection, at: u64, name: Name) -> Expr
     }
 }
 
-// The second brace of a replication. A decimal may be a number by itself, so one outside the bounds of a count does not fit here.
+// The second brace of a replication. A decimal may be a number by itself, so one outside the bounds of a count does not
+// fit here.
 #[tactic(auto, unfolding(crate::specs::Exprs::inner_brace))]
 fn inner_brace<'a>(cursor: &mut Cursor<'_, 'a>, count: u32) -> Result<Token<'a>, Fault>
     ensures reads { ReadsToken (spec.inner_brace count cursor.old) result cursor.new }

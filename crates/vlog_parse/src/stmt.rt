@@ -45,7 +45,8 @@ fn statement<F: Fn(&mut Cursor<'_, '_>) -> Result<Stmt, Fault>>(
     inner: F,
 ) -> Result<Stmt, Fault>
     requires { IsReader (F.pre inner) (F.post inner) }
-    ensures reads { (rule : Parser tree.Stmt) → IsRule rule (F.post inner) → Reads (spec.statement rule depth cursor.old) result cursor.new }
+    ensures reads { (rule : Parser tree.Stmt) → IsRule rule (F.post inner)
+        → Reads (spec.statement rule depth cursor.old) result cursor.new }
     ensures consumes { OnOk result (length cursor.new < length cursor.old) }
 {
     if cursor.sees(";") {
@@ -75,7 +76,8 @@ fn block<F: Fn(&mut Cursor<'_, '_>) -> Result<Stmt, Fault>>(
     inner: F,
 ) -> Result<Stmt, Fault>
     requires { IsReader (F.pre inner) (F.post inner) }
-    ensures reads { (rule : Parser tree.Stmt) → IsRule rule (F.post inner) → Reads (spec.block rule cursor.old) result cursor.new }
+    ensures reads { (rule : Parser tree.Stmt) → IsRule rule (F.post inner)
+        → Reads (spec.block rule cursor.old) result cursor.new }
     ensures consumes { OnOk result (length cursor.new < length cursor.old) }
 {
     cursor.expect("begin")?;
@@ -92,7 +94,8 @@ fn choice<F: Fn(&mut Cursor<'_, '_>) -> Result<Stmt, Fault>>(
     inner: F,
 ) -> Result<Stmt, Fault>
     requires { IsReader (F.pre inner) (F.post inner) }
-    ensures reads { (rule : Parser tree.Stmt) → IsRule rule (F.post inner) → Reads (spec.choice rule depth cursor.old) result cursor.new }
+    ensures reads { (rule : Parser tree.Stmt) → IsRule rule (F.post inner)
+        → Reads (spec.choice rule depth cursor.old) result cursor.new }
     ensures consumes { OnOk result (length cursor.new < length cursor.old) }
 {
     cursor.expect("if")?;
@@ -112,7 +115,8 @@ fn otherwise<F: Fn(&mut Cursor<'_, '_>) -> Result<Stmt, Fault>>(
     inner: F,
 ) -> Result<Option<Boxed<Stmt>>, Fault>
     requires { IsReader (F.pre inner) (F.post inner) }
-    ensures reads { (rule : Parser tree.Stmt) → IsRule rule (F.post inner) → Reads (spec.otherwise rule cursor.old) result cursor.new }
+    ensures reads { (rule : Parser tree.Stmt) → IsRule rule (F.post inner)
+        → Reads (spec.otherwise rule cursor.old) result cursor.new }
     ensures shrinks { OnOk result (length cursor.new ≤ length cursor.old) }
 {
     if !cursor.sees("else") {
