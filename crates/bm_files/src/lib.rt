@@ -1,0 +1,6 @@
+//! Whole files over a shelf.
+#![tactic(auto)]
+
+mod file;
+
+pub use file::{read_file, read_front, write_file};
