@@ -1,0 +1,14 @@
+pub mod ContentLemmas
+pub mod DecimalLemmas
+pub mod DeclareLemmas
+pub mod FirstLemmas
+pub mod GroupLemmas
+pub mod HeaderLemmas
+pub mod HeaderSteps
+pub mod ListLemmas
+pub mod MatchingLemmas
+pub mod PathLemmas
+pub mod SectionLemmas
+pub mod SelectLemmas
+pub mod SizeLemmas
+pub mod TokenLemmas

@@ -1,0 +1,13 @@
+pub mod Bits
+pub mod Contents
+pub mod Decimals
+pub mod Declares
+pub mod Faults
+pub mod Header
+pub mod Matching
+pub mod Names
+pub mod Scopes
+pub mod Sections
+pub mod Sizes
+pub mod Tokens
+pub mod Variables
