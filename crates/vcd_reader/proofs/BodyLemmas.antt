@@ -5,9 +5,9 @@ use Rattle.vcd_reader.specs.declared.form.Form.{Form}
 use Rattle.vcd_reader.specs.declared.form.Form.TheVariants.{Time, Scalar, Vector, Real, Passed, Section, Wrong}
 use Rattle.vcd_reader.specs.Body.{Item, behind_end, form_of, items, with_code, without_code}
 use Rattle.vcd_reader.specs.Body.Item.{time, change, misplaced, unfinished}
-use Rattle.vcd_reader.specs.Sections.{is_closed, is_end}
-use Rattle.vcd_reader.specs.Tokens.{Tok}
-use Rattle.vcd_reader.proofs.ListLemmas.{after_more, after_now, any_more, any_now}
+use Rattle.vcd_header.specs.Sections.{is_closed, is_end}
+use Rattle.vcd_header.specs.Tokens.{Tok}
+use Rattle.vcd_header.proofs.ListLemmas.{after_more, after_now, any_more, any_now}
 
 -- the items of a token of this form and of those behind it
 abbrev pub items_by : Form → Tok → List Tok → List Item

@@ -1,9 +1,9 @@
 -- Changes and times, one item more.
-use Rattle.std.proofs.Common.{◌≡◌, ℕ, ◌==◌, List, [], ◌∷◌, ◌++◌, Bool, true, false, cond, Option, Some, None, unwrap_or, if◌then◌else◌, refl, subst, sym, ap, ◌∙◌, arith, eq-eqb}
-use Rattle.std.specs.List.{cons_option, dedup, dedup_from, filter_map, last_or}
+use Rattle.std.proofs.Common.{◌≡◌, ℕ, ◌==◌, List, [], ◌∷◌, ◌++◌, Bool, true, false, cond, Some, None, unwrap_or, if◌then◌else◌, refl, subst, sym, ap, ◌∙◌, arith}
+use Rattle.std.specs.List.{dedup, dedup_from, last_or}
 use Rattle.vcd_reader.specs.Body.{Item}
 use Rattle.vcd_reader.specs.Body.Item.{time, change, misplaced, unfinished}
-use Rattle.vcd_reader.specs.Changes.{ChangesGrow, TimesGrow, Triple, all_times, time_behind, time_of, times, triple_of, triples_from}
+use Rattle.vcd_reader.specs.Changes.{ChangesGrow, TimesGrow, all_times, triple_of, triples_from}
 
 last_from : (xs : List ℕ) (x first : ℕ) → unwrap_or (last_or (Some x) xs) first ≡ unwrap_or (last_or None xs) x
 last_from [] x first = refl
@@ -39,7 +39,7 @@ equal left right = left == right
 equal_is : (x k : ℕ) → (x == k) ≡ true → x ≡ k
 equal_is x k h = grind arith
 
-dedup_more : (xs : List ℕ) (k before now : ℕ) → last_or (Some k) xs ≡ Some before → dedup_from equal k (xs ++ now ∷ []) ≡ dedup_from equal k xs ++ (if now == before then [] else now ∷ [])
+pub dedup_more : (xs : List ℕ) (k before now : ℕ) → last_or (Some k) xs ≡ Some before → dedup_from equal k (xs ++ now ∷ []) ≡ dedup_from equal k xs ++ (if now == before then [] else now ∷ [])
 dedup_more [] k before now is =
     let last : k ≡ before = cc in
     by (now == k) ∙ ap (λ before. k ∷ (if now == before then [] else now ∷ [])) last

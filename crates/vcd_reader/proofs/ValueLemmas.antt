@@ -1,9 +1,9 @@
 -- Values and edges, one more at a time.
-use Rattle.std.proofs.Common.{◌≡◌, ℕ, ◌<◌, ◌≤◌, zero, suc, List, [], ◌∷◌, ◌++◌, All, Bool, true, false, cond, not, ◌&&◌, length, map, nat_le, get_or, Option, Some, None, if◌then◌else◌, arith, refl, subst, sym, ap, ◌∙◌}
-use Rattle.std.specs.List.{cons_option, filter, filter_map, last_or, zip}
+use Rattle.std.proofs.Common.{◌≡◌, ℕ, ◌<◌, ◌≤◌, suc, List, [], ◌∷◌, ◌++◌, All, Bool, true, false, cond, not, ◌&&◌, map, nat_le, Option, Some, None, if◌then◌else◌, arith, refl, sym, ap, ◌∙◌}
+use Rattle.std.specs.List.{cons_option, filter, filter_map, last_or}
 use Rattle.std.proofs.lemmas.List.{append-nil, map-append}
 use Rattle.vcd_reader.specs.Changes.{Triple}
-use Rattle.vcd_reader.specs.Matching.{Source}
+use Rattle.vcd_header.specs.Matching.{Source}
 use Rattle.vcd_reader.specs.Rows.{EarlierSampled, EdgesGrow, is_edge, sampled, steps}
 use Rattle.vcd_reader.specs.Values.{ChangeGives, EarlierStay, NothingComes, digit_given, given_by, is_one, value_after, value_at}
 
@@ -28,7 +28,7 @@ module _ (f : Triple → Option ℕ) where
   given_more [] change = refl
   given_more (first ∷ changes) change = with_first (f first) (filter_map f (changes ++ change ∷ [])) (filter_map f changes) (cons_option (f change) []) (given_more changes change)
 
-last_of : (o : Option ℕ) (xs : List ℕ) (x : ℕ) → last_or o (xs ++ x ∷ []) ≡ Some x
+pub last_of : (o : Option ℕ) (xs : List ℕ) (x : ℕ) → last_or o (xs ++ x ∷ []) ≡ Some x
 last_of o [] x = refl
 last_of o (y ∷ xs) x = last_of (Some y) xs x
 
@@ -90,7 +90,7 @@ same_edge changes change clock before now h k =
     ap (λ was. not was && value_at (changes ++ change ∷ []) now clock) (earlier_stay changes change before clock h)
     ∙ ap (λ is. not (value_at changes before clock) && is) (earlier_stay changes change now clock k)
 
-sampled_step : (changes : List Triple) (clock : Source) (before now : ℕ) (times : List ℕ)
+pub sampled_step : (changes : List Triple) (clock : Source) (before now : ℕ) (times : List ℕ)
     → sampled changes clock (before ∷ now ∷ times) ≡ (if is_edge changes clock (before, now) then before ∷ [] else []) ++ sampled changes clock (now ∷ times)
 sampled_step changes clock before now times = by (is_edge changes clock (before, now))
   where

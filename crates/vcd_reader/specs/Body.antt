@@ -4,10 +4,10 @@ use Rattle.std.specs.List.{list_all, list_any}
 use Rattle.std.specs.Str.{bytes_eq}
 use Rattle.vcd_reader.specs.declared.form.Form.{Form}
 use Rattle.vcd_reader.specs.declared.form.Form.TheVariants.{Time, Scalar, Vector, Real, Passed, Section, Wrong}
-use Rattle.vcd_reader.specs.Decimals.{number_up_to}
-use Rattle.vcd_reader.specs.Sections.{is_end}
-use Rattle.vcd_reader.specs.Tokens.{Tok}
-use Rattle.vcd_reader.specs.Variables.{is_code}
+use Rattle.vcd_header.specs.Decimals.{number_up_to}
+use Rattle.vcd_header.specs.Sections.{is_end}
+use Rattle.vcd_header.specs.Tokens.{Tok}
+use Rattle.vcd_header.specs.Variables.{is_code}
 
 -- ---- the forms of tokens
 

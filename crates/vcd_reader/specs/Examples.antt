@@ -2,8 +2,8 @@
 use Rattle.std.specs.Prelude.{◌≡◌, ℕ, List, [], ◌∷◌, ◌++◌, Bool, true, false, codes, None, Some, Result, Ok, Err}
 use Rattle.trace_rows.specs.declared.labels.Labels.{Labels}
 use Rattle.trace_rows.specs.declared.labels.PortLabel.{PortLabel}
-use Rattle.vcd_reader.specs.declared.fault.VcdFault.{VcdFault}
-use Rattle.vcd_reader.specs.declared.fault.VcdFault.TheVariants.{Token, Truncated, TimeBack, BadCode, TooWide, NoScope, NoSignal, NoTime}
+use Rattle.vcd_header.specs.declared.fault.VcdFault.{VcdFault}
+use Rattle.vcd_header.specs.declared.fault.VcdFault.TheVariants.{Token, Truncated, TimeBack, BadCode, TooWide, NoScope, NoSignal, NoTime}
 use Rattle.vcd_reader.specs.Rows.{Reading}
 use Rattle.vcd_reader.specs.Waveform.{waveform}
 

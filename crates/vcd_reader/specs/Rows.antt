@@ -4,7 +4,7 @@ use Rattle.std.specs.List.{filter, zip}
 use Rattle.trace_rows.specs.Rows.{Rows}
 use Rattle.vcd_reader.specs.Body.{Item}
 use Rattle.vcd_reader.specs.Changes.{Triple, last_time, times, triples}
-use Rattle.vcd_reader.specs.Matching.{Source}
+use Rattle.vcd_header.specs.Matching.{Source}
 use Rattle.vcd_reader.specs.Values.{unknown_count, value_at, values_at}
 
 -- each time but the first with the time before it, which stands first

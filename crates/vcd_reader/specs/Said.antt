@@ -2,10 +2,10 @@
 use Rattle.std.specs.Prelude.{ℕ, List, [], ◌∷◌, nat_lt, unwrap_or, Option, None, Some}
 use Rattle.vcd_reader.specs.declared.item.Said.{Said}
 use Rattle.vcd_reader.specs.declared.item.Said.TheVariants.{Time, Change, Misplaced, Unfinished}
-use Rattle.vcd_reader.specs.declared.fault.VcdFault.{VcdFault}
-use Rattle.vcd_reader.specs.declared.fault.VcdFault.TheVariants.{TimeBack, Token, Truncated}
-use Rattle.vcd_reader.specs.Faults.{fault_if}
-use Rattle.vcd_reader.specs.Variables.{Variable, size_of}
+use Rattle.vcd_header.specs.declared.fault.VcdFault.{VcdFault}
+use Rattle.vcd_header.specs.declared.fault.VcdFault.TheVariants.{TimeBack, Token, Truncated}
+use Rattle.vcd_header.specs.Faults.{fault_if}
+use Rattle.vcd_header.specs.Variables.{Variable, size_of}
 use Rattle.vcd_reader.specs.Waveform.{change_fault}
 use Rattle.vcd_reader.specs.Body.{Item}
 use Rattle.vcd_reader.specs.Body.Item.{time, change, misplaced, unfinished}

@@ -3,7 +3,7 @@ use Rattle.std.specs.Prelude.{◌≡◌, ◌<◌, ◌≤◌, ◌++◌, ◌∷◌
 use Rattle.std.specs.List.{count_by, filter_map, last_or, sum_by}
 use Rattle.std.specs.Str.{bytes_eq}
 use Rattle.vcd_reader.specs.Changes.{Triple}
-use Rattle.vcd_reader.specs.Matching.{Source}
+use Rattle.vcd_header.specs.Matching.{Source}
 
 -- what stands left of a value's leftmost digit: 0 where that is 0 or 1, else the digit itself
 abbrev pub extension : ℕ → ℕ
@@ -70,10 +70,12 @@ EarlierStay =
 abbrev pub ChangeGives : Type 0
 ChangeGives =
     (changes : List Triple) (change : Triple) (time : ℕ) (source : Source) → change.time ≤ time
-    → value_at (changes ++ change ∷ []) time source ≡ value_after (value_at changes time source) (digit_given source change)
+    → value_at (changes ++ change ∷ []) time source
+    ≡ value_after (value_at changes time source) (digit_given source change)
 
 -- Where no change comes behind a time, the values at the end of a later one are those at its end.
 abbrev pub NothingComes : Type 0
 NothingComes =
-    (changes : List Triple) (time later : ℕ) (source : Source) → All (λ change. change.time ≤ time) changes → time ≤ later
+    (changes : List Triple) (time later : ℕ) (source : Source) → All (λ change. change.time ≤ time) changes
+    → time ≤ later
     → value_at changes later source ≡ value_at changes time source

@@ -6,19 +6,19 @@ use Rattle.bm_base.specs.declared.size.Size.{Size}
 use Rattle.bm_base.specs.declared.size.Size.TheVariants.{Cycles, Bits, States}
 use Rattle.trace_rows.specs.Rows.{Rows}
 use Rattle.trace_rows.specs.declared.labels.Labels.{Labels}
-use Rattle.vcd_reader.specs.declared.fault.VcdFault.{VcdFault}
-use Rattle.vcd_reader.specs.declared.fault.VcdFault.TheVariants.{Token, Truncated, TimeBack, BadCode, TooWide, NoScope, NoTime, Limit}
+use Rattle.vcd_header.specs.declared.fault.VcdFault.{VcdFault}
+use Rattle.vcd_header.specs.declared.fault.VcdFault.TheVariants.{Token, Truncated, TimeBack, BadCode, TooWide, NoScope, NoTime, Limit}
 use Rattle.vcd_reader.specs.Body.{Item, items}
 use Rattle.vcd_reader.specs.Body.Item.{time, change, misplaced, unfinished}
 use Rattle.vcd_reader.specs.Changes.{all_times, last_time}
-use Rattle.vcd_reader.specs.Declares.{Declared, declared_by_groups, matched_in}
-use Rattle.vcd_reader.specs.Faults.{fault_if, first_fault}
-use Rattle.vcd_reader.specs.Header.{header_fault}
-use Rattle.vcd_reader.specs.Matching.{Source}
+use Rattle.vcd_header.specs.Declares.{Declared, declared_by_groups, matched_in}
+use Rattle.vcd_header.specs.Faults.{fault_if, first_fault}
+use Rattle.vcd_header.specs.Header.{header_fault}
+use Rattle.vcd_header.specs.Matching.{Source}
 use Rattle.vcd_reader.specs.Rows.{Reading, reading}
-use Rattle.vcd_reader.specs.Sections.{body, header}
-use Rattle.vcd_reader.specs.Tokens.{Tok, tokens}
-use Rattle.vcd_reader.specs.Variables.{Variable, size_of}
+use Rattle.vcd_header.specs.Sections.{body, header}
+use Rattle.vcd_header.specs.Tokens.{Tok, tokens}
+use Rattle.vcd_header.specs.Variables.{Variable, size_of}
 
 -- a change of a code that has this size, if it is declared
 abbrev pub change_fault : ℕ → List ℕ → Option ℕ → Option VcdFault

@@ -2,7 +2,7 @@ ghost use Rattle.std.specs.Prelude.{◌≡◌, ◌∷◌};
 ghost use Rattle.std.specs.List.{list_all};
 ghost use Rattle.vcd_reader.specs.Body.{form_by, form_of, is_digit, is_passed, time_form};
 
-use crate::decimal::number_up_to;
+use vcd_header::number_up_to;
 
 /// What a token of the body is, told by its text.
 #[derive(Clone, Copy, Debug, PartialEq, Eq)]

@@ -1,12 +1,10 @@
 ghost use Rattle.std.specs.Prelude.{◌≡◌, ◌++◌, ◌∷◌, ◌<◌, ◌≤◌, [], IfNone, OnSome, length};
 ghost use Rattle.vcd_reader.specs.Body.{behind_end, items, with_code, without_code};
 ghost use Rattle.vcd_reader.specs.Said.{item_of, said_by};
-ghost use Rattle.vcd_reader.specs.Tokens.{tok_of};
+ghost use Rattle.vcd_header.specs.Tokens.{tok_of};
 
-use crate::declaration::is_code;
 use crate::form::{Form, form_of};
-use crate::section::skip_section;
-use crate::token::{Token, Tokens};
+use vcd_header::{Token, Tokens, is_code, skip_section};
 
 /// What a body says. Each place is the byte offset of a token.
 #[derive(Clone, Copy)]

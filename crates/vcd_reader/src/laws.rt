@@ -1,6 +1,7 @@
 //! What the definitions say.
 ghost use Rattle.vcd_reader.specs.Changes.{ChangesGrow, TimesGrow};
 ghost use Rattle.vcd_reader.specs.Examples.{ReadsExamples};
+ghost use Rattle.vcd_reader.specs.Laws.{CyclesAreWithin, FaultsAreOfBytes, ShorterPassesNone, WaveformsFit};
 ghost use Rattle.vcd_reader.specs.Rows.{EarlierSampled, EdgesGrow};
 ghost use Rattle.vcd_reader.specs.Values.{ChangeGives, EarlierStay, NothingComes};
 
@@ -22,4 +23,20 @@ pub fn values_grow()
 pub fn items_grow()
     ensures changes { ChangesGrow }
     ensures times { TimesGrow }
+{}
+
+/// What every reading is.
+pub fn waveforms_fit()
+    ensures { WaveformsFit }
+{}
+
+/// Of what kinds the faults of bytes are.
+pub fn faults_are_of_bytes()
+    ensures { FaultsAreOfBytes }
+{}
+
+/// What no limit refuses.
+pub fn shorter_fits()
+    ensures shorter { ShorterPassesNone }
+    ensures cycles { CyclesAreWithin }
 {}

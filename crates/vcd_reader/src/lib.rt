@@ -3,30 +3,17 @@
 #![tactic(auto)]
 
 mod body;
-mod command;
-mod decimal;
-mod declaration;
-mod declarations;
+mod bounded;
 mod digit;
-mod dotted;
-mod fault;
+mod file;
 mod form;
-mod header;
 mod item;
 pub mod laws;
-mod matching;
-mod place;
-mod scope;
-mod section;
-mod select;
-mod sizes;
-mod source;
-mod token;
-mod variables;
-mod wanted;
+mod sampler;
+mod sources;
+mod targets;
 mod waveform;
 
-pub use fault::VcdFault;
+pub use file::read_vcd;
 pub use form::Form;
-pub use select::Select;
-pub use waveform::check_vcd;
+pub use waveform::read_bytes;

@@ -2,10 +2,10 @@ use Rattle.std.proofs.Common.{◌≤◌, [], ◌∷◌, length, if◌then◌else
 use Rattle.std.specs.List.{after_first}
 use Rattle.vcd_reader.specs.Body.{items}
 use Rattle.vcd_reader.specs.Body.Item.{unfinished}
-use Rattle.vcd_reader.specs.Sections.{is_end}
-use Rattle.vcd_reader.specs.Tokens.{tok_of}
+use Rattle.vcd_header.specs.Sections.{is_end}
+use Rattle.vcd_header.specs.Tokens.{tok_of}
 use Rattle.vcd_reader.proofs.BodyLemmas.{behind_section}
-use Rattle.vcd_reader.proofs.ListLemmas.{after_none, after_shorter}
+use Rattle.vcd_header.proofs.ListLemmas.{after_none, after_shorter}
 use Rattle.vcd_reader.proofs.item.skipped.Goals as goal
 
 pub returns-then-skip_section-clause-said : goal.returns-then-skip_section-clause-said
