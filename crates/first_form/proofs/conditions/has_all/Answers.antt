@@ -1,0 +1,12 @@
+use Rattle.std.proofs.Common.{List, ℕ, Bor, rules, sym, ◌∙◌, tests}
+use Rattle.std.proofs.lemmas.Iterator.{YieldsList-from_slice}
+use Rattle.std.proofs.lemmas.Iterator.Search.{all_from_yields_List}
+use Rattle.std.proofs.lemmas.List.Folds.{list_all-map}
+use Rattle.std.proofs.Common.{map}
+use Rattle.first_form.specs.FirstForm.{is_among}
+use Rattle.first_form.proofs.conditions.has_all.Goals as goal
+
+pub returns : goal.returns
+returns c =
+    all_from_yields_List (λ (text : Bor (List ℕ)). is_among (map (λ (text : Bor (List ℕ)). text.now) c.args.others.now) text.now) _ _ _ c.all.ensures.ran (YieldsList-from_slice c.args.names.now (cc)) (λ x b q k. search (rules, tests))
+    ∙ sym (list_all-map (λ text. is_among (map (λ (text : Bor (List ℕ)). text.now) c.args.others.now) text) (λ (text : Bor (List ℕ)). text.now) c.args.names.now)

@@ -1,0 +1,12 @@
+pub mod Acceptance
+pub mod Circuit
+pub mod Deletion
+pub mod FirstForm
+pub mod Labels
+pub mod LoopFree
+pub mod Means
+pub mod Roles
+pub mod Simulation
+pub mod TopNames
+pub mod Waveform
+pub mod Wired
