@@ -1,27 +1,33 @@
 -- What the circuit says of a trace is what the machine says.
-use Rattle.std.proofs.Common.{◌≡◌, ◌⊎◌, inl, inr, ℕ, zero, suc, ◌+◌, ◌-◌, ◌<◌, List, [], ◌∷◌, Bool, true, false, All, Option, Some, None, length, position, slice_get, take, set, replicate, get_or, refl, sym, ap, ◌∙◌, subst, arith}
+use Rattle.std.proofs.Common.{◌≡◌, ◌⊎◌, inl, inr, ℕ, zero, suc, ◌+◌, ◌-◌, ◌<◌, ◌≤◌, ◌*◌, ◌^◌, Ok, List, [], ◌∷◌, Bool, true, false, All, Option, Some, None, length, position, slice_get, take, set, replicate, get_or, refl, sym, ap, ◌∙◌, subst, arith}
 use Rattle.std.specs.Option.{IsSome}
-use Rattle.std.proofs.lemmas.List.{take_all}
+use Rattle.std.proofs.lemmas.List.{length-take, take_all}
 use Rattle.std.proofs.lemmas.Option.{none-some}
 use Rattle.std.proofs.lemmas.List.Quantifiers.{position-Some}
+use Rattle.vcd_laws.specs.Laws.{WrittenIsRead}
+use Rattle.vcd_laws.specs.Writable.{AreRowsOf, AreWritable}
+use Rattle.vcd_reader.specs.Rows.{Reading}
+use Rattle.vcd_reader.specs.Waveform.{waveform}
 use Rattle.vcd_writer.specs.Waveform.{vcd}
+use Rattle.first_form.specs.Waveform.{AreScalars}
+use Rattle.bm_cli.proofs.Scalars.{row_width-scalars}
 use Rattle.trace_rows.specs.Cut.{cut}
 use Rattle.trace_rows.specs.CutLemmas.{All-cut}
 use Rattle.trace_rows.specs.declared.labels.Labels.{Labels}
 use Rattle.vlog_tree.specs.Machine.{Machine}
 use Rattle.vlog_tree.specs.Run.{IsFirstAtLast, Violates, checks as checks_of}
 use Rattle.vlog_tree.specs.Violations.{checks_cut, first_violates, last_is_first, violates_entry}
-use Rattle.bm_cli.specs.Acceptance.{HasLeastCut, IsAccepted}
-use Rattle.bm_cli.specs.Deletion.{EndsBad, IsFirstCut, NoCut, cut_bad}
-use Rattle.bm_cli.specs.Means.{IsMachine}
+use Rattle.first_form.specs.Acceptance.{HasLeastCut, IsAccepted}
+use Rattle.first_form.specs.Deletion.{EndsBad, IsFirstCut, NoCut, cut_bad}
+use Rattle.first_form.specs.Means.{IsMachine}
 use Rattle.bm_cli.specs.Counted.{base_row}
 use Rattle.bm_cli.specs.Minimised.{IsMinimised, IsNoMore, IsReduced}
 use Rattle.trace_rows.specs.Events.{event_count}
-use Rattle.bm_cli.specs.Simulation.{checks, first_bad, zeros}
+use Rattle.first_form.specs.Simulation.{checks, first_bad, zeros}
 use Rattle.bm_cli.specs.declared.answer.Summary.{Summary}
-use Rattle.bm_cli.specs.declared.netlist.circuit.Circuit.{Circuit}
-use Rattle.bm_cli.proofs.DeletionLemmas.{checks_long, cuts_are_told, ends_are_told}
-use Rattle.bm_cli.proofs.MeaningRuns.{runs_agree, violations_are_told}
+use Rattle.first_form.specs.declared.circuit.Circuit.{Circuit}
+use Rattle.first_form.proofs.DeletionLemmas.{checks_long, cuts_are_told, ends_are_told}
+use Rattle.first_form.proofs.MeaningRuns.{runs_agree, violations_are_told}
 
 -- Bits up to the first 1 are 0, but the last.
 bits_up_to : (cycle : ℕ) (bits : List Bool) → cycle < length bits → get_or bits cycle false ≡ true → ((k : ℕ) → k < cycle → get_or bits k false ≡ false)
@@ -94,17 +100,43 @@ no_more : (labels : Labels) (trace rows : List (List Bool)) → (trace ≡ rows)
 no_more labels trace rows (inl same) = inr (ap length same, let even : event_count (base_row labels) trace ≡ event_count (base_row labels) rows = ap (event_count (base_row labels)) same in omega arith)
 no_more labels trace rows (inr shorter) = inl shorter
 
+-- a trace that is left of some rows has no more
+no_longer : (trace rows : List (List Bool)) (n : ℕ) → (trace ≡ take n rows) ⊎ (length trace < length (take n rows)) → length trace ≤ length rows
+no_longer trace rows n (inl same) = let many : length trace ≡ length (take n rows) = ap length same in omega (arith, many, length-take n rows)
+no_longer trace rows n (inr shorter) = omega (arith, shorter, length-take n rows)
+
+-- What is written of a trace is read back.
+read_again : WrittenIsRead → (labels : Labels) → AreWritable labels → AreScalars labels.ports → (trace : List (List Bool)) (checks : List Bool) (text : List ℕ)
+    → 0 < length trace → length trace ≤ 1000000 → All (λ row. length row ≡ length labels.ports) trace → text ≡ vcd trace labels (Some checks)
+    → waveform text labels None ≡ Ok (record { trace = record { width = length labels.ports; rows = trace }; unknown = 0 })
+read_again law labels writable scalars trace checks text some few widths written =
+    let wide = row_width-scalars labels.ports scalars in
+    let are : AreRowsOf labels trace = record {
+      some = some;
+      width = subst (λ n. All (λ row. length row ≡ n) trace) (sym wide) widths;
+      times = omega (arith, few);
+    } in
+    ap (λ bytes. waveform bytes labels None) written
+    ∙ law labels trace (Some checks) writable are
+    ∙ ap (λ n. Ok (record { trace = record { width = n; rows = trace }; unknown = 0 })) wide
+
 -- What the circuit reduced, the machine accepts.
-pub minimised_by : (machine : Machine) (circuit : Circuit) → IsMachine machine circuit → (labels : Labels) → length labels.ports ≡ circuit.inputs
-    → (rows : List (List Bool)) → All (λ row. length row ≡ circuit.inputs) rows → (text : List ℕ) (summary : Summary)
-    → IsReduced circuit labels rows text summary → IsMinimised machine labels rows text summary
-minimised_by machine circuit is labels ports rows wide text summary made = record {
-  trace = made.trace;
-  widths = subst (λ n. All (λ row. length row ≡ n) made.trace) (sym ports) made.widths;
-  accepted = accepted_by machine circuit is made.trace made.widths made.ends made.minimal;
-  cycles = made.cycle + 1;
-  cut_off = (violations_are_told machine circuit is rows wide).first made.cycle made.bad;
-  no_more = no_more labels made.trace (take (made.cycle + 1) rows) made.kept;
-  written = made.written ∙ ap (λ b. vcd made.trace labels (Some b)) (sym (runs_agree machine circuit is made.trace made.widths));
-  counted = made.counted;
-}
+pub minimised_by : WrittenIsRead → (machine : Machine) (circuit : Circuit) → IsMachine machine circuit → (labels : Labels) → AreWritable labels → AreScalars labels.ports
+    → length labels.ports ≡ circuit.inputs
+    → (reading : Reading) → All (λ row. length row ≡ circuit.inputs) reading.trace.rows → length reading.trace.rows ≤ 1000000 → (text : List ℕ) (summary : Summary)
+    → IsReduced circuit labels reading.trace.rows reading.unknown text summary → IsMinimised machine labels reading text summary
+minimised_by law machine circuit is labels writable scalars ports reading wide few text summary made =
+    let rows : List (List Bool) = reading.trace.rows in
+    let widths : All (λ row. length row ≡ length labels.ports) made.trace = subst (λ n. All (λ row. length row ≡ n) made.trace) (sym ports) made.widths in
+    record {
+      trace = made.trace;
+      widths = widths;
+      accepted = accepted_by machine circuit is made.trace made.widths made.ends made.minimal;
+      cycles = made.cycle + 1;
+      cut_off = (violations_are_told machine circuit is rows wide).first made.cycle made.bad;
+      no_more = no_more labels made.trace (take (made.cycle + 1) rows) made.kept;
+      written = made.written ∙ ap (λ b. vcd made.trace labels (Some b)) (sym (runs_agree machine circuit is made.trace made.widths));
+      read_back = read_again law labels writable scalars made.trace (checks circuit (zeros circuit) made.trace) text made.some
+          (let fewer = no_longer made.trace rows (made.cycle + 1) made.kept in omega (arith, fewer, few)) widths made.written;
+      counted = made.counted;
+    }

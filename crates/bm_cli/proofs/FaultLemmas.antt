@@ -3,7 +3,6 @@ use Rattle.std.proofs.Common.{◌≡◌, ◌≢◌, ◌⊎◌, inl, inr, ℕ, Li
 use Rattle.std.proofs.lemmas.Option.{none-some}
 use Rattle.vlog_lexer.specs.Faults.{FailsAt, IsOneFault, IsTokensOrFault}
 use Rattle.vlog_lexer.specs.declared.fault.LexFault.{LexFault}
-use Rattle.vlog_lexer.specs.declared.fault.LexFault.TheVariants as lex
 use Rattle.vlog_parse.specs.Nest.{too_deep_at}
 use Rattle.vlog_numbers.specs.NumberFaults.{number_fault_at}
 use Rattle.vlog_parse.specs.Outside.{outside_at}
@@ -15,10 +14,10 @@ use Rattle.vlog_tokens.specs.Toks.{Lexed, Tok}
 use Rattle.vlog_tree.specs.declared.design.Design.{Design}
 use Rattle.vlog_tree.specs.Spelling.{IsOneDesign}
 use Rattle.vlog_tree.specs.Spelling.Modules.{IsDesign}
-use Rattle.bm_cli.specs.FirstForm.{IsFirstForm}
+use Rattle.first_form.specs.FirstForm.{IsFirstForm}
 use Rattle.bm_cli.specs.Input.{SpellsInProfile, SpellsNetlist}
 use Rattle.bm_cli.specs.NetlistFaults.{IsNetlistOrFault, IsOneNetlistFault, IsParseFault, IsReason, placeless}
-use Rattle.bm_cli.specs.TopNames.{TopNames}
+use Rattle.first_form.specs.TopNames.{TopNames}
 use Rattle.bm_cli.specs.declared.netlist.fault.NetlistFault.{NetlistFault}
 use Rattle.bm_cli.specs.declared.netlist.fault.NetlistFault.TheVariants as fault
 
@@ -38,14 +37,12 @@ module _ (one_list : IsOneTokenList) (tokens_or_fault : IsTokensOrFault) where
       not_caused lexed text.spelled.tokens design why other (one_list bytes lexed.list text.spelled.tokens are text.spelled.are) text.spelled.spell text.profile cause
 
   no_reason : (one_design : IsOneDesign) (names : TopNames) (bytes : List ℕ) (design : Design) (why : NetlistFault) → SpellsNetlist names bytes design → IsReason names bytes why → ⊥
-  no_reason one_design names bytes design (fault.BadByte at) netlist fails = tokens_or_fault bytes netlist.text.spelled.tokens (lex.BadByte at) netlist.text.spelled.are fails
-  no_reason one_design names bytes design (fault.OpenComment at) netlist fails = tokens_or_fault bytes netlist.text.spelled.tokens (lex.OpenComment at) netlist.text.spelled.are fails
-  no_reason one_design names bytes design (fault.OpenString at) netlist fails = tokens_or_fault bytes netlist.text.spelled.tokens (lex.OpenString at) netlist.text.spelled.are fails
-  no_reason one_design names bytes design (fault.Directive at) netlist fails = tokens_or_fault bytes netlist.text.spelled.tokens (lex.Directive at) netlist.text.spelled.are fails
-  no_reason one_design names bytes design (fault.Outside at) netlist why = not_parse_fault bytes design (parse.Outside at) (λ is. cc) netlist.text why
-  no_reason one_design names bytes design (fault.Number at) netlist why = not_parse_fault bytes design (parse.Number at) (λ is. cc) netlist.text why
-  no_reason one_design names bytes design (fault.TooDeep at) netlist why = not_parse_fault bytes design (parse.TooDeep at) (λ is. cc) netlist.text why
-  no_reason one_design names bytes design (fault.Syntax at) netlist why = not_parse_fault bytes design (parse.Syntax at) (λ is. cc) netlist.text why
+  no_reason one_design names bytes design (fault.Lex why) netlist fails = tokens_or_fault bytes netlist.text.spelled.tokens why netlist.text.spelled.are fails
+  no_reason one_design names bytes design (fault.Parse (parse.Outside at)) netlist why = not_parse_fault bytes design (parse.Outside at) (λ is. cc) netlist.text why
+  no_reason one_design names bytes design (fault.Parse (parse.Number at)) netlist why = not_parse_fault bytes design (parse.Number at) (λ is. cc) netlist.text why
+  no_reason one_design names bytes design (fault.Parse (parse.TooDeep at)) netlist why = not_parse_fault bytes design (parse.TooDeep at) (λ is. cc) netlist.text why
+  no_reason one_design names bytes design (fault.Parse (parse.Syntax at)) netlist why = not_parse_fault bytes design (parse.Syntax at) (λ is. cc) netlist.text why
+  no_reason one_design names bytes design (fault.Parse parse.Memory) netlist why = why
   no_reason one_design names bytes design fault.Form netlist (other, text, none) =
       none (subst (IsFirstForm names) (one_design bytes design other netlist.text.spelled text.spelled) netlist.form)
 
@@ -54,26 +51,19 @@ module _ (one_list : IsOneTokenList) (tokens_or_fault : IsTokensOrFault) where
 
   -- ---- A netlist is refused for one reason at most.
 
-  abbrev of_lex : LexFault → NetlistFault
-  of_lex (lex.BadByte at) = fault.BadByte at
-  of_lex (lex.OpenComment at) = fault.OpenComment at
-  of_lex (lex.OpenString at) = fault.OpenString at
-  of_lex (lex.Directive at) = fault.Directive at
-  of_lex lex.Memory = fault.Form
-
   -- the first of the parser's reasons
   abbrev first_by : Option ℕ → Option ℕ → Option ℕ → NetlistFault
-  first_by (Some at) number deep = fault.Outside at
-  first_by None (Some at) deep = fault.Number at
-  first_by None None (Some at) = fault.TooDeep at
-  first_by None None None = fault.Syntax 0
+  first_by (Some at) number deep = fault.Parse (parse.Outside at)
+  first_by None (Some at) deep = fault.Parse (parse.Number at)
+  first_by None None (Some at) = fault.Parse (parse.TooDeep at)
+  first_by None None None = fault.Parse (parse.Syntax 0)
 
   abbrev first_reason : List Tok → NetlistFault
   first_reason ts = first_by (outside_at ts) (number_fault_at ts) (too_deep_at ts)
 
   -- The reason is the lexer's, or the parser's, or the form.
   abbrev IsOneOf : List ℕ → NetlistFault → Type 0
-  IsOneOf bytes why = ((e : LexFault) × FailsAt bytes e × (placeless why ≡ of_lex e))
+  IsOneOf bytes why = ((e : LexFault) × FailsAt bytes e × (placeless why ≡ fault.Lex e))
       ⊎ (((ts : List Tok) × AreTokens bytes ts × ((design : Design) → SpellsInProfile bytes design → ⊥) × (placeless why ≡ first_reason ts))
       ⊎ ((design : Design) × SpellsInProfile bytes design × (placeless why ≡ fault.Form)))
 
@@ -81,23 +71,21 @@ module _ (one_list : IsOneTokenList) (tokens_or_fault : IsTokensOrFault) where
   parsed bytes why p other h is = inr (inl (h.0.list, h.1, λ design text. not_parse_fault bytes design p other text h, is))
 
   one_of : (names : TopNames) (bytes : List ℕ) (why : NetlistFault) → IsReason names bytes why → IsOneOf bytes why
-  one_of names bytes (fault.BadByte at) h = inl (lex.BadByte at, h, refl)
-  one_of names bytes (fault.OpenComment at) h = inl (lex.OpenComment at, h, refl)
-  one_of names bytes (fault.OpenString at) h = inl (lex.OpenString at, h, refl)
-  one_of names bytes (fault.Directive at) h = inl (lex.Directive at, h, refl)
-  one_of names bytes (fault.Outside at) h =
-      parsed bytes (fault.Outside at) (parse.Outside at) (λ is. cc) h (λ i. first_by (sym h.3 i) (number_fault_at h.0.list) (too_deep_at h.0.list))
-  one_of names bytes (fault.Number at) h =
-      parsed bytes (fault.Number at) (parse.Number at) (λ is. cc) h (λ i. first_by (sym h.3.0 i) (sym h.3.1 i) (too_deep_at h.0.list))
-  one_of names bytes (fault.TooDeep at) h =
-      parsed bytes (fault.TooDeep at) (parse.TooDeep at) (λ is. cc) h (λ i. first_by (sym h.3.0 i) (sym h.3.1 i) (sym h.3.2 i))
-  one_of names bytes (fault.Syntax at) h =
-      parsed bytes (fault.Syntax at) (parse.Syntax at) (λ is. cc) h (λ i. first_by (sym h.3.0.words i) (sym h.3.0.numbers i) (sym h.3.0.nest i))
+  one_of names bytes (fault.Lex why) h = inl (why, h, refl)
+  one_of names bytes (fault.Parse (parse.Outside at)) h =
+      parsed bytes (fault.Parse (parse.Outside at)) (parse.Outside at) (λ is. cc) h (λ i. first_by (sym h.3 i) (number_fault_at h.0.list) (too_deep_at h.0.list))
+  one_of names bytes (fault.Parse (parse.Number at)) h =
+      parsed bytes (fault.Parse (parse.Number at)) (parse.Number at) (λ is. cc) h (λ i. first_by (sym h.3.0 i) (sym h.3.1 i) (too_deep_at h.0.list))
+  one_of names bytes (fault.Parse (parse.TooDeep at)) h =
+      parsed bytes (fault.Parse (parse.TooDeep at)) (parse.TooDeep at) (λ is. cc) h (λ i. first_by (sym h.3.0 i) (sym h.3.1 i) (sym h.3.2 i))
+  one_of names bytes (fault.Parse (parse.Syntax at)) h =
+      parsed bytes (fault.Parse (parse.Syntax at)) (parse.Syntax at) (λ is. cc) h (λ i. first_by (sym h.3.0.words i) (sym h.3.0.numbers i) (sym h.3.0.nest i))
+  one_of names bytes (fault.Parse parse.Memory) h = absurd h
   one_of names bytes fault.Form (design, text, none) = inr (inr (design, text, refl))
 
   module _ (one_fault : IsOneFault) where
     same_reason : (bytes : List ℕ) (why other : NetlistFault) → IsOneOf bytes why → IsOneOf bytes other → placeless why ≡ placeless other
-    same_reason bytes why other (inl (e, fails, is)) (inl (f, fails', is')) = is ∙ ap of_lex (one_fault bytes e f fails fails') ∙ sym is'
+    same_reason bytes why other (inl (e, fails, is)) (inl (f, fails', is')) = is ∙ ap fault.Lex (one_fault bytes e f fails fails') ∙ sym is'
     same_reason bytes why other (inl (e, fails, is)) (inr (inl (ts, are, none, is'))) = absurd (tokens_or_fault bytes ts e are fails)
     same_reason bytes why other (inl (e, fails, is)) (inr (inr (design, text, is'))) = absurd (tokens_or_fault bytes text.spelled.tokens e text.spelled.are fails)
     same_reason bytes why other (inr (inl (ts, are, none, is))) (inl (e, fails, is')) = absurd (tokens_or_fault bytes ts e are fails)

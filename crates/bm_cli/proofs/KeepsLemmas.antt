@@ -6,7 +6,9 @@ use Rattle.bm_base.specs.Counts.{Rose}
 use Rattle.bm_base.specs.Held.{Held, holding}
 use Rattle.bm_base.specs.declared.status.Status.{Status}
 use Rattle.bm_base.specs.declared.status.Status.TheVariants as status
-use Rattle.bm_cli.specs.Answer.{line_of, read_fault_line, refusal_status, status_of}
+use Rattle.vcd_header.specs.declared.fault.VcdFault.{VcdFault}
+use Rattle.vcd_header.specs.declared.fault.VcdFault.TheVariants as vcd
+use Rattle.bm_cli.specs.Answer.{waveform_status, line_of, read_fault_line, refusal_status, status_of}
 use Rattle.bm_cli.specs.Commands.{Answers, HasOneStatus, reads_of, writes_of}
 use Rattle.bm_cli.specs.Commands.Check.{Checks}
 use Rattle.bm_cli.specs.Commands.Minimise.{Minimises}
@@ -19,11 +21,25 @@ use Rattle.bm_cli.specs.Words.{Command, Inputs, Request, check, minimise}
 use Rattle.bm_cli.specs.declared.answer.Answer.{Answer}
 use Rattle.bm_cli.specs.declared.answer.Answer.TheVariants.{Minimised, Accepted as Judged, Refused as Refusing}
 use Rattle.bm_cli.specs.declared.answer.Refusal.{Refusal}
-use Rattle.bm_cli.specs.declared.answer.Refusal.TheVariants.{Cut, Limit, Netlist, NoViolation, NotFirstAtLast, WaveformForm}
+use Rattle.bm_cli.specs.declared.answer.Refusal.TheVariants.{Cut, Limit, Netlist, NoViolation, NotFirstAtLast, Waveform}
 use Rattle.bm_cli.specs.declared.answer.Stop.{Stop}
 use Rattle.bm_cli.specs.declared.answer.Stop.TheVariants.{Refused, ReadFault, WriteFault, Memory}
-use Rattle.bm_cli.proofs.FileLemmas.{bytes_under-holding}
+use Rattle.bm_files.proofs.FileLemmas.{bytes_under-holding}
 use Rattle.bm_cli.proofs.ToldLemmas.{unchanged}
+
+-- The status of a refused waveform is one of two.
+by_waveform_status : (P : Status → Type 0) (why : VcdFault) → P status.Limit → P status.Waveform → P (waveform_status why)
+by_waveform_status P (vcd.Limit what) limit waveform = limit
+by_waveform_status P (vcd.Token at) limit waveform = waveform
+by_waveform_status P (vcd.Truncated at) limit waveform = waveform
+by_waveform_status P (vcd.TimeBack at) limit waveform = waveform
+by_waveform_status P (vcd.BadCode at) limit waveform = waveform
+by_waveform_status P (vcd.TooWide at) limit waveform = waveform
+by_waveform_status P vcd.NoScope limit waveform = waveform
+by_waveform_status P (vcd.NoSignal name) limit waveform = waveform
+by_waveform_status P vcd.NoTime limit waveform = waveform
+by_waveform_status P vcd.Read limit waveform = waveform
+by_waveform_status P vcd.Memory limit waveform = waveform
 
 -- No answer has a fault's status.
 refusal_no_fault : (why : Refusal) → is_fault (refusal_status why) ≡ false
@@ -32,7 +48,7 @@ refusal_no_fault NotFirstAtLast = refl
 refusal_no_fault (Cut cycle) = refl
 refusal_no_fault (Netlist why) = refl
 refusal_no_fault (Limit what) = refl
-refusal_no_fault WaveformForm = refl
+refusal_no_fault (Waveform why) = by_waveform_status (λ s. is_fault s ≡ false) why refl refl
 
 pub no_fault : (answer : Answer) → is_fault (status_of answer) ≡ false
 no_fault (Minimised summary) = refl
@@ -176,7 +192,7 @@ refusal_not_done NotFirstAtLast zero = cc
 refusal_not_done (Cut cycle) zero = cc
 refusal_not_done (Netlist why) zero = cc
 refusal_not_done (Limit what) zero = cc
-refusal_not_done WaveformForm zero = cc
+refusal_not_done (Waveform why) zero = by_waveform_status (λ s. s ≡ status.Done → ⊥) why (λ is. cc) (λ is. cc) zero
 
 done_when : (request : Request) (before after : Outside) (held now : Held) (answer : Answer) → Minimises request held answer now → status_of answer ≡ status.Done
     → GainsLine (line_of answer) before.taken after.taken → after.held ≡ Some now → IsDone request held before after
@@ -225,7 +241,7 @@ answer_no_words (Refusing NotFirstAtLast) two = cc
 answer_no_words (Refusing (Cut cycle)) two = cc
 answer_no_words (Refusing (Netlist why)) two = cc
 answer_no_words (Refusing (Limit what)) two = cc
-answer_no_words (Refusing WaveformForm) two = cc
+answer_no_words (Refusing (Waveform why)) two = by_waveform_status (λ s. s ≡ status.Words → ⊥) why (λ is. cc) (λ is. cc) two
 
 printed_no_words : (own : Status) (line : List ℕ) (result : Status) (cause : Type 0) (taken taken_now : Option (List ℕ))
     → (own ≡ status.Words → ⊥) → Prints own line result cause taken taken_now → result ≡ status.Words → ⊥

@@ -10,12 +10,12 @@ use Rattle.vlog_tree.specs.declared.item.Dir.TheVariants.{Input, Output}
 use Rattle.vlog_tree.specs.declared.item.Item.{Item}
 use Rattle.vlog_tree.specs.declared.item.Item.TheVariants.{Decl, Assign, Gate, Instance, Always, Initial}
 use Rattle.vlog_words.specs.Words.{IsWord, is_reserved_text, is_word_byte, is_word_start, is_word_text}
-use Rattle.bm_cli.specs.FirstForm.{Text, IsFirstForm, are_distinct, are_free, declared, declared_name, input_name, inputs, is_among, is_free, output_name, outputs, without}
+use Rattle.first_form.specs.FirstForm.{Text, IsFirstForm, are_distinct, are_free, declared, declared_name, input_name, inputs, is_among, is_free, output_name, outputs, without}
 use Rattle.bm_cli.specs.Input.{design_labels}
-use Rattle.bm_cli.specs.Labels.{labels_with, scalar_port}
-use Rattle.bm_cli.specs.TopNames.{TopNames}
-use Rattle.bm_cli.specs.Waveform.{AreScalars, AreWords}
-use Rattle.bm_cli.specs.Wired.{items_of}
+use Rattle.first_form.specs.Labels.{labels_with, scalar_port}
+use Rattle.first_form.specs.TopNames.{TopNames}
+use Rattle.first_form.specs.Waveform.{AreScalars, AreWords}
+use Rattle.first_form.specs.Wired.{items_of}
 
 -- ---- words
 

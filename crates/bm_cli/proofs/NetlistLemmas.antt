@@ -1,5 +1,7 @@
 -- A netlist that was read or refused, from what the lexer, the parser and the conditions say.
-use Rattle.std.proofs.Common.{◌≡◌, ◌⊎◌, inl, inr, ℕ, List, length, subst, sym}
+use Rattle.std.proofs.Common.{◌≡◌, ◌⊎◌, inl, inr, ℕ, List, Option, None, Some, Result, Ok, Err, ap, ◌∙◌, length, subst, sym}
+use Rattle.bm_base.specs.declared.size.Size.{Size}
+use Rattle.std.specs.Result.{IfErr, IfOk}
 use Rattle.trace_rows.specs.declared.labels.Labels.{Labels}
 use Rattle.vlog_lexer.specs.Faults.{FailsAt}
 use Rattle.vlog_lexer.specs.declared.fault.LexFault.{LexFault}
@@ -11,16 +13,16 @@ use Rattle.vlog_tokens.specs.Tokens.{AreTokens}
 use Rattle.vlog_tokens.specs.Toks.{Lexed, Tok}
 use Rattle.vlog_tree.specs.declared.design.Design.{Design}
 use Rattle.vlog_tree.specs.Spelling.Modules.{IsDesign}
-use Rattle.bm_cli.specs.Circuit.{IsInOrder}
-use Rattle.bm_cli.specs.FirstForm.{IsFirstForm}
-use Rattle.bm_cli.specs.Input.{IsRead, SpellsInProfile, design_labels}
-use Rattle.bm_cli.specs.Reading.{StopsFor, stop_of_lex, stop_of_parse}
-use Rattle.bm_cli.specs.TopNames.{TopNames}
-use Rattle.bm_cli.specs.Waveform.{AreWords}
-use Rattle.bm_cli.specs.Wired.{IsWired, items_of}
-use Rattle.bm_cli.specs.declared.netlist.circuit.Circuit.{Circuit}
-use Rattle.bm_cli.proofs.Meaning.{circuit_is_machine}
-use Rattle.bm_cli.proofs.NameLemmas.{labels_are_words}
+use Rattle.first_form.specs.Circuit.{IsInOrder}
+use Rattle.first_form.specs.FirstForm.{IsFirstForm}
+use Rattle.bm_cli.specs.Input.{IsRead, SpellsInProfile, SpellsNetlist, design_labels, input_count, machine_size_passed, size_passed}
+use Rattle.bm_cli.specs.Reading.{IsSizeStop, StopsFor, stop_of_lex, stop_of_parse}
+use Rattle.bm_cli.specs.declared.answer.Stop.{Stop}
+use Rattle.first_form.specs.TopNames.{TopNames}
+use Rattle.first_form.specs.Means.{IsMachine, machine_of}
+use Rattle.first_form.specs.Wired.{IsWired, items_of}
+use Rattle.first_form.specs.declared.circuit.Circuit.{Circuit}
+use Rattle.first_form.proofs.Meaning.{circuit_is_machine}
 
 -- ---- the steps of the reader
 
@@ -50,12 +52,49 @@ parse_stopped names bytes lexed parse.Memory are len cause = tt
 pub spelled_by : (bytes : List ℕ) (ts : List Tok) (design : Design) → AreTokens bytes ts → IsDesign ts design × IsInProfile ts → SpellsInProfile bytes design
 spelled_by bytes ts design are spelled = record { spelled = record { tokens = ts; are = are; spell = spelled.0 }; profile = spelled.1 }
 
+-- the sizes of the machine are those of its circuit
+sizes_of : (names : TopNames) (design : Design) (circuit : Circuit) → IsMachine (machine_of names design) circuit
+    → machine_size_passed (machine_of names design) ≡ size_passed (length circuit.next.items) circuit.inputs
+sizes_of names design circuit is = ap (λ n. size_passed n (input_count (machine_of names design))) is.registers ∙ ap (size_passed (length circuit.next.items)) is.inputs
+
+stop_by : (names : TopNames) (bytes : List ℕ) (design : Design) (passed : Option Size) (stop : Stop) → SpellsNetlist names bytes design
+    → machine_size_passed (machine_of names design) ≡ passed → IsSizeStop passed stop → StopsFor names bytes stop
+stop_by names bytes design None stop text same stops = absurd stops
+stop_by names bytes design (Some what) stop text same stops = subst (StopsFor names bytes) (sym stops) (design, text, same)
+
 pub circuit_read : (names : TopNames) (bytes : List ℕ) (design : Design) (circuit : Circuit) (labels : Labels) → SpellsInProfile bytes design → IsFirstForm names design
-    → IsInOrder circuit → IsWired names (items_of design.modules) circuit → labels ≡ design_labels names design → IsRead names bytes circuit labels
-circuit_read names bytes design circuit labels text form in_order wired labelled = record {
-  design = design;
-  text = record { text = text; form = form };
-  machine = circuit_is_machine names design circuit form wired in_order;
-  labelled = labelled;
-  words = subst AreWords (sym labelled) (labels_are_words names design form);
-}
+    → IsInOrder circuit → IsWired names (items_of design.modules) circuit → labels ≡ design_labels names design
+    → size_passed (length circuit.next.items) circuit.inputs ≡ None → IsRead names bytes circuit labels
+circuit_read names bytes design circuit labels text form in_order wired labelled small =
+    let machine = circuit_is_machine names design circuit form wired in_order in
+    record {
+      design = design;
+      text = record { text = text; form = form };
+      small = sizes_of names design circuit machine ∙ small;
+      machine = machine;
+      labelled = labelled;
+    }
+
+-- A size of the circuit that passes its limit is one of the machine.
+pub size_stopped : (names : TopNames) (bytes : List ℕ) (design : Design) (circuit : Circuit) (stop : Stop) → SpellsInProfile bytes design → IsFirstForm names design
+    → IsInOrder circuit → IsWired names (items_of design.modules) circuit → IsSizeStop (size_passed (length circuit.next.items) circuit.inputs) stop → StopsFor names bytes stop
+size_stopped names bytes design circuit stop text form in_order wired stops =
+    let same : machine_size_passed (machine_of names design) ≡ size_passed (length circuit.next.items) circuit.inputs =
+    sizes_of names design circuit (circuit_is_machine names design circuit form wired in_order) in
+    stop_by names bytes design (size_passed (length circuit.next.items) circuit.inputs) stop (record { text = text; form = form }) same stops
+
+-- The circuit is read where no size passes its limit.
+pub within_read : (names : TopNames) (bytes : List ℕ) (design : Design) (circuit : Circuit) (labels : Labels) (result : Result (Circuit × Labels) Stop) → SpellsInProfile bytes design
+    → IsFirstForm names design → IsInOrder circuit → IsWired names (items_of design.modules) circuit → labels ≡ design_labels names design
+    → IfOk result (λ read. (read.0 ≡ circuit) × (read.1 ≡ labels) × (size_passed (length circuit.next.items) circuit.inputs ≡ None))
+    → IfOk result (λ read. IsRead names bytes read.0 read.1)
+within_read names bytes design circuit labels (Ok read) text form in_order wired labelled (same, given, small) =
+    subst (λ c. IsRead names bytes c read.1) (sym same)
+    (subst (IsRead names bytes circuit) (sym given) (circuit_read names bytes design circuit labels text form in_order wired labelled small))
+within_read names bytes design circuit labels (Err stop) text form in_order wired labelled read = tt
+
+pub within_stopped : (names : TopNames) (bytes : List ℕ) (design : Design) (circuit : Circuit) (result : Result (Circuit × Labels) Stop) → SpellsInProfile bytes design
+    → IsFirstForm names design → IsInOrder circuit → IsWired names (items_of design.modules) circuit
+    → IfErr result (λ stop. IsSizeStop (size_passed (length circuit.next.items) circuit.inputs) stop) → IfErr result (StopsFor names bytes)
+within_stopped names bytes design circuit (Ok read) text form in_order wired stops = tt
+within_stopped names bytes design circuit (Err stop) text form in_order wired stops = size_stopped names bytes design circuit stop text form in_order wired stops

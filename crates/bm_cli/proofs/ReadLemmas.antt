@@ -8,15 +8,16 @@ use Rattle.bm_base.specs.Counts.{FaultCounts}
 use Rattle.bm_base.specs.Held.{Held, bytes_under}
 use Rattle.trace_rows.specs.declared.labels.Labels.{Labels}
 use Rattle.vlog_tree.specs.declared.design.Design.{Design}
+use Rattle.bm_base.specs.declared.size.Size.{Size}
 use Rattle.bm_base.specs.declared.size.Size.TheVariants as size
-use Rattle.bm_cli.specs.Files.{IsWithin}
-use Rattle.bm_cli.specs.Input.{IsNetlist, IsRead, SpellsNetlist}
+use Rattle.bm_files.specs.Files.{IsWithin}
+use Rattle.bm_cli.specs.Input.{IsNetlist, IsOfForm, IsRead, IsTooLarge, SpellsNetlist}
 use Rattle.bm_cli.specs.NetlistFaults.{IsNetlistFault, IsReason}
 use Rattle.bm_cli.specs.Reading.{ReadsNetlist, StopsAtNetlist, StopsFilling, StopsFor}
-use Rattle.bm_cli.specs.TopNames.{TopNames}
-use Rattle.bm_cli.specs.declared.netlist.circuit.Circuit.{Circuit}
+use Rattle.first_form.specs.TopNames.{TopNames}
+use Rattle.first_form.specs.declared.circuit.Circuit.{Circuit}
 use Rattle.bm_cli.specs.declared.netlist.fault.NetlistFault.{NetlistFault}
-use Rattle.bm_cli.specs.declared.answer.Refusal.TheVariants.{NoViolation, NotFirstAtLast, Cut, Netlist, Limit, WaveformForm}
+use Rattle.bm_cli.specs.declared.answer.Refusal.TheVariants.{NoViolation, NotFirstAtLast, Cut, Netlist, Limit, Waveform}
 use Rattle.bm_cli.specs.declared.answer.Stop.{Stop}
 use Rattle.bm_cli.specs.declared.answer.Stop.TheVariants.{Refused, ReadFault, WriteFault, Memory}
 
@@ -25,15 +26,29 @@ found_within : (limit : ℕ) (file : List ℕ) (found : Option (Vec ℕ Global))
     → found ≡ Some bytes → IsWithin limit file found → (bytes.items ≡ file) × (length file ≤ limit)
 found_within limit file found bytes is within = subst (IsWithin limit file) is within
 
-netlist_of : (names : TopNames) (file bytes : List ℕ) (design : Design) → bytes ≡ file → length file ≤ 16777216 → SpellsNetlist names bytes design → IsNetlist names file design
-netlist_of names file bytes design same short text = record { short = short; text = subst (λ b. SpellsNetlist names b design) same text }
+of_form : (names : TopNames) (file bytes : List ℕ) (design : Design) → bytes ≡ file → length file ≤ 16777216 → SpellsNetlist names bytes design → IsOfForm names file design
+of_form names file bytes design same short text = record { short = short; text = subst (λ b. SpellsNetlist names b design) same text }
 
 pub netlist_told : (names : TopNames) (held : Option Held) (name : List ℕ) (circuit : Circuit) (labels : Labels) (found : Option (Vec ℕ Global)) (bytes : Vec ℕ Global)
     → found ≡ Some bytes → IfSome held (λ held. IsWithin 16777216 (bytes_under held name) found) → IsRead names bytes.items circuit labels → ReadsNetlist names held name circuit labels
-netlist_told names None name circuit labels found bytes is told read = record { design = read.design; machine = read.machine; labelled = read.labelled; words = read.words; told = tt }
+netlist_told names None name circuit labels found bytes is told read = record {
+  design = read.design;
+  form = read.text.form;
+  small = read.small;
+  machine = read.machine;
+  labelled = read.labelled;
+  told = tt;
+}
 netlist_told names (Some held) name circuit labels found bytes is told read =
     let within : (bytes.items ≡ bytes_under held name) × (length (bytes_under held name) ≤ 16777216) = found_within 16777216 (bytes_under held name) found bytes is told in
-    record { design = read.design; machine = read.machine; labelled = read.labelled; words = read.words; told = netlist_of names (bytes_under held name) bytes.items read.design within.0 within.1 read.text }
+    record {
+      design = read.design;
+      form = read.text.form;
+      small = read.small;
+      machine = read.machine;
+      labelled = read.labelled;
+      told = record { form = of_form names (bytes_under held name) bytes.items read.design within.0 within.1 read.text; small = read.small };
+    }
 
 -- The bytes were read, and give a circuit.
 pub netlists_told : (names : TopNames) (held : Option Held) (name : List ℕ) (found : Option (Vec ℕ Global)) (bytes : Vec ℕ Global) (result : Result (Circuit × Labels) Stop)
@@ -49,10 +64,10 @@ filling_stopped names held name reads reads_now stop (inl failed) = subst (Stops
 filling_stopped names held name reads reads_now stop (inr is) = subst (StopsAtNetlist names held name reads reads_now) (sym is) tt
 
 -- The file is too long.
-pub long_told : (held : Option Held) (name : List ℕ) (found : Option (Vec ℕ Global)) → found ≡ None
-    → IfSome held (λ held. IsWithin 16777216 (bytes_under held name) found) → IfSome held (λ held. (size.Netlist ≡ size.Netlist) × (16777216 < length (bytes_under held name)))
-long_told None name found is told = tt
-long_told (Some held) name found is told = (refl, subst (IsWithin 16777216 (bytes_under held name)) is told)
+pub long_told : (names : TopNames) (held : Option Held) (name : List ℕ) (found : Option (Vec ℕ Global)) → found ≡ None
+    → IfSome held (λ held. IsWithin 16777216 (bytes_under held name) found) → IfSome held (λ held. IsTooLarge names (bytes_under held name) size.Netlist)
+long_told names None name found is told = tt
+long_told names (Some held) name found is told = inl (refl, subst (IsWithin 16777216 (bytes_under held name)) is told)
 
 -- The reason applies to the file.
 reason_told : (names : TopNames) (held : Option Held) (name : List ℕ) (found : Option (Vec ℕ Global)) (bytes : Vec ℕ Global) (why : NetlistFault)
@@ -63,6 +78,15 @@ reason_told names (Some held) name found bytes why is told reason =
     let within : (bytes.items ≡ bytes_under held name) × (length (bytes_under held name) ≤ 16777216) = found_within 16777216 (bytes_under held name) found bytes is told in
     record { short = within.1; reason = subst (λ b. IsReason names b why) within.0 reason }
 
+-- A size of the machine passes its limit.
+size_told : (names : TopNames) (held : Option Held) (name : List ℕ) (found : Option (Vec ℕ Global)) (bytes : Vec ℕ Global) (what : Size)
+    → found ≡ Some bytes → IfSome held (λ held. IsWithin 16777216 (bytes_under held name) found) → StopsFor names bytes.items (Refused (Limit what))
+    → IfSome held (λ held. IsTooLarge names (bytes_under held name) what)
+size_told names None name found bytes what is told passed = tt
+size_told names (Some held) name found bytes what is told (design, text, passed) =
+    let within : (bytes.items ≡ bytes_under held name) × (length (bytes_under held name) ≤ 16777216) = found_within 16777216 (bytes_under held name) found bytes is told in
+    inr (design, of_form names (bytes_under held name) bytes.items design within.0 within.1 text, passed)
+
 stop_told : (names : TopNames) (held : Option Held) (name : List ℕ) (reads reads_now : FaultCounts) (found : Option (Vec ℕ Global)) (bytes : Vec ℕ Global) (stop : Stop)
     → found ≡ Some bytes → IfSome held (λ held. IsWithin 16777216 (bytes_under held name) found) → StopsFor names bytes.items stop → StopsAtNetlist names held name reads reads_now stop
 stop_told names held name reads reads_now found bytes (Refused (Netlist why)) is told stops = reason_told names held name found bytes why is told stops
@@ -71,8 +95,8 @@ stop_told names held name reads reads_now found bytes WriteFault is told stops =
 stop_told names held name reads reads_now found bytes (Refused NoViolation) is told stops = absurd stops
 stop_told names held name reads reads_now found bytes (Refused NotFirstAtLast) is told stops = absurd stops
 stop_told names held name reads reads_now found bytes (Refused (Cut i)) is told stops = absurd stops
-stop_told names held name reads reads_now found bytes (Refused (Limit what)) is told stops = absurd stops
-stop_told names held name reads reads_now found bytes (Refused WaveformForm) is told stops = absurd stops
+stop_told names held name reads reads_now found bytes (Refused (Limit what)) is told stops = size_told names held name found bytes what is told stops
+stop_told names held name reads reads_now found bytes (Refused (Waveform why)) is told stops = absurd stops
 stop_told names held name reads reads_now found bytes ReadFault is told stops = absurd stops
 
 -- The bytes were read, and give no circuit.

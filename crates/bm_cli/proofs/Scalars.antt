@@ -5,7 +5,7 @@ use Rattle.std.proofs.lemmas.List.Elements.{recursion_from_All}
 use Rattle.std.specs.List.{AllByRecursion}
 use Rattle.trace_rows.specs.declared.labels.PortLabel.{PortLabel}
 use Rattle.vcd_writer.specs.Value.{row_width}
-use Rattle.bm_cli.specs.Waveform.{AreScalars}
+use Rattle.first_form.specs.Waveform.{AreScalars}
 
 each_scalar : (ports : List PortLabel) → AllByRecursion (λ port. (port.width ≡ 1) × (port.range ≡ None)) ports → row_width ports ≡ length ports
 each_scalar [] h = omega arith

@@ -1,35 +1,44 @@
 -- What the steps of a command say of its end.
-use Rattle.std.proofs.Common.{◌≡◌, ◌⊎◌, inl, inr, ℕ, List, [], ◌∷◌, Bool, Option, Some, None, Result, Ok, Err, take, refl, sym, ap, ◌∙◌, subst}
+use Rattle.std.proofs.Common.{◌≡◌, ◌⊎◌, inl, inr, ◌≤◌, ◌<◌, arith, length, nat_lt, if◌then◌else◌, ℕ, List, [], ◌∷◌, Bool, Option, Some, None, Result, Ok, Err, take, refl, sym, ap, ◌∙◌, subst}
 use Rattle.std.specs.Option.{IfSome, option_map}
+use Rattle.std.proofs.lemmas.Bool.{cases_Bool, cond-false, cond-true, ltb-false}
 use Rattle.std.specs.Result.{IfErr, IfOk}
 use Rattle.bm_base.specs.Counts.{FaultCounts, RisesOnlyAt, Rose, SameCounts, count_of}
 use Rattle.bm_base.specs.Held.{Held, holding}
 use Rattle.trace_rows.specs.declared.labels.Labels.{Labels}
 use Rattle.vlog_tree.specs.Run.{IsFirstAtLast, Violates}
-use Rattle.bm_cli.specs.Acceptance.{HasLeastCut, IsAccepted}
+use Rattle.first_form.specs.Acceptance.{HasLeastCut, IsAccepted}
 use Rattle.bm_cli.specs.Commands.Check.{Checks}
 use Rattle.bm_cli.specs.Commands.Minimise.{Minimises}
 use Rattle.bm_cli.specs.Counted.{accepted_of}
 use Rattle.bm_cli.specs.Ends.{CallCounts, Gives, IsOnTheWay, Stops}
-use Rattle.bm_cli.specs.Files.{HoldsPrefix}
-use Rattle.bm_cli.specs.Input.{design_labels}
+use Rattle.bm_files.specs.Files.{HoldsPrefix}
+use Rattle.bm_cli.specs.Input.{design_labels, input_count, register_count, size_passed}
 use Rattle.bm_cli.specs.Judgement.{IsJudged}
-use Rattle.bm_cli.specs.Means.{machine_of}
+use Rattle.first_form.specs.Means.{machine_of}
 use Rattle.bm_cli.specs.Minimised.{IsMinimised, IsReduced}
 use Rattle.bm_cli.specs.Outside.{OthersStay, Tells}
-use Rattle.bm_cli.specs.Reading.{ReadsInputs, StopsAtFiles}
-use Rattle.bm_cli.specs.Simulation.{first_bad, zeros}
+use Rattle.bm_cli.specs.Reading.{ReadsInputs, ReadsNetlist, StopsAtFiles}
+use Rattle.first_form.specs.TopNames.{TopNames}
+use Rattle.first_form.specs.Waveform.{AreScalars}
+use Rattle.vcd_laws.specs.Laws.{WrittenIsRead}
+use Rattle.vcd_laws.specs.Writable.{AreWritable}
+use Rattle.vcd_reader.specs.Rows.{Reading}
+use Rattle.bm_base.specs.declared.size.Size.TheVariants as size
+use Rattle.bm_cli.proofs.NameLemmas.{labels_are_scalars}
+use Rattle.bm_cli.proofs.WritableLemmas.{labels_are_writable}
+use Rattle.first_form.specs.Simulation.{first_bad, zeros}
 use Rattle.bm_cli.specs.Verdict.{HasCounted, HasCut, HasMinimised, HasNoViolation, HasNotFirst, RefusesFiles}
 use Rattle.bm_cli.specs.Words.{Command, Inputs, Request, check, minimise}
 use Rattle.bm_cli.specs.declared.answer.Accepted.{Accepted}
 use Rattle.bm_cli.specs.declared.answer.Answer.TheVariants.{Minimised, Accepted as Judged}
-use Rattle.bm_cli.specs.declared.answer.Refusal.TheVariants.{NoViolation, NotFirstAtLast, Cut, Netlist, Limit, WaveformForm}
+use Rattle.bm_cli.specs.declared.answer.Refusal.TheVariants.{NoViolation, NotFirstAtLast, Cut, Netlist, Limit, Waveform}
 use Rattle.bm_cli.specs.declared.answer.Stop.{Stop}
 use Rattle.bm_cli.specs.declared.answer.Stop.TheVariants.{Refused, ReadFault, WriteFault, Memory}
 use Rattle.bm_cli.specs.declared.answer.Summary.{Summary}
-use Rattle.bm_cli.specs.declared.netlist.circuit.Circuit.{Circuit}
+use Rattle.first_form.specs.declared.circuit.Circuit.{Circuit}
 use Rattle.bm_cli.proofs.CutLemmas.{accepted_by, least_by, minimised_by, must_end, not_bad}
-use Rattle.bm_cli.proofs.FileLemmas.{bytes_under-holding}
+use Rattle.bm_files.proofs.FileLemmas.{bytes_under-holding}
 use Rattle.bm_cli.proofs.ReadingLemmas.{input_told}
 
 -- ---- a shelf that holds what it held
@@ -62,21 +71,46 @@ check_stopped inputs held now counts Memory same stops = unchanged (check inputs
 
 -- ---- `minimise`
 
-module _ (request : Request) (held : Option Held) (circuit : Circuit) (labels : Labels) (rows : List (List Bool)) (read : ReadsInputs request.inputs held circuit labels rows) where
-  pub made_told : (text : List ℕ) (summary : Summary) → IsReduced circuit labels rows text summary → IfSome held (λ held. HasMinimised request.inputs held text summary)
-  made_told text summary made =
-      input_told request.inputs held circuit labels rows (λ design rows. IsMinimised (machine_of request.inputs.names design) (design_labels request.inputs.names design) rows text summary) read
-      (λ wide. subst (λ l. IsMinimised (machine_of request.inputs.names read.netlist.design) l rows text summary) read.netlist.labelled
-      (minimised_by (machine_of request.inputs.names read.netlist.design) circuit read.netlist.machine labels read.ports rows wide text summary made))
+-- sizes that pass no limit
+few_inputs : (registers inputs : ℕ) → size_passed registers inputs ≡ None → inputs ≤ 4096
+few_inputs registers inputs none = elim (cases_Bool (nat_lt 65536 registers)) [
+  | inl many ↦ let some : Some size.Registers ≡ None = sym (cond-true (nat_lt 65536 registers) (Some size.Registers) _ many) ∙ none in absurd cc
+  | inr few ↦
+      let rest : (if nat_lt 4096 inputs then Some size.Inputs else None) ≡ None = sym (cond-false (nat_lt 65536 registers) (Some size.Registers) _ few) ∙ none in
+      elim (cases_Bool (nat_lt 4096 inputs)) [
+        | inl many ↦ let some : Some size.Inputs ≡ None = sym (cond-true (nat_lt 4096 inputs) (Some size.Inputs) _ many) ∙ rest in absurd cc
+        | inr few ↦ omega (arith, ltb-false 4096 inputs few)
+      ]
+]
 
-  no_violation_told : first_bad circuit (zeros circuit) rows ≡ None → IfSome held (HasNoViolation request.inputs)
+-- The labels of a netlist that was read can be written.
+labels_fit : (names : TopNames) (held : Option Held) (name : List ℕ) (circuit : Circuit) (labels : Labels) → ReadsNetlist names held name circuit labels
+    → length labels.ports ≡ circuit.inputs → AreWritable labels
+labels_fit names held name circuit labels read ports =
+    let few : input_count (machine_of names read.design) ≤ 4096 =
+    few_inputs (register_count (machine_of names read.design)) (input_count (machine_of names read.design)) read.small in
+    let same : length labels.ports ≡ length (design_labels names read.design).ports = ap (λ l. length l.ports) read.labelled in
+    subst AreWritable (sym read.labelled) (labels_are_writable names read.design read.form (let count = read.machine.inputs in omega (arith, few, same, ports, count)))
+
+module _ (request : Request) (held : Option Held) (circuit : Circuit) (labels : Labels) (reading : Reading) (read : ReadsInputs request.inputs held circuit labels reading) where
+  pub made_told : WrittenIsRead → (text : List ℕ) (summary : Summary) → IsReduced circuit labels reading.trace.rows reading.unknown text summary
+      → IfSome held (λ held. HasMinimised request.inputs held text summary)
+  made_told law text summary made =
+      input_told request.inputs held circuit labels reading (λ design reading. IsMinimised (machine_of request.inputs.names design) (design_labels request.inputs.names design) reading text summary) read
+      (subst (λ l. IsMinimised (machine_of request.inputs.names read.netlist.design) l reading text summary) read.netlist.labelled
+      (minimised_by law (machine_of request.inputs.names read.netlist.design) circuit read.netlist.machine labels
+      (labels_fit request.inputs.names held request.inputs.netlist circuit labels read.netlist read.ports)
+      (subst (λ l. AreScalars l.ports) (sym read.netlist.labelled) (labels_are_scalars request.inputs.names read.netlist.design))
+      read.ports reading read.wide read.cycles text summary made))
+
+  no_violation_told : first_bad circuit (zeros circuit) reading.trace.rows ≡ None → IfSome held (HasNoViolation request.inputs)
   no_violation_told none =
-      input_told request.inputs held circuit labels rows (λ design rows. Violates (machine_of request.inputs.names design) rows → ⊥) read
-      (λ wide. not_bad (machine_of request.inputs.names read.netlist.design) circuit read.netlist.machine rows wide none)
+      input_told request.inputs held circuit labels reading (λ design reading. Violates (machine_of request.inputs.names design) reading.trace.rows → ⊥) read
+      (not_bad (machine_of request.inputs.names read.netlist.design) circuit read.netlist.machine reading.trace.rows read.wide none)
 
   -- Nothing was reduced, for want of memory or since there is no violation.
   pub reducing_stopped : (now : Option Held) (counts : CallCounts) (stop : Stop) → now ≡ held → (stop ≡ Refused NoViolation) ⊎ (stop ≡ Memory)
-      → (stop ≡ Refused NoViolation → first_bad circuit (zeros circuit) rows ≡ None) → Stops (minimise request) held now counts stop
+      → (stop ≡ Refused NoViolation → first_bad circuit (zeros circuit) reading.trace.rows ≡ None) → Stops (minimise request) held now counts stop
   reducing_stopped now counts stop same (inl is) none = subst (Stops (minimise request) held now counts) (sym is)
       (stays (HasNoViolation request.inputs) _ (λ held holds. Minimises.no_violation holds) held now same (no_violation_told (none is)))
   reducing_stopped now counts stop same (inr is) none = subst (Stops (minimise request) held now counts) (sym is) (unchanged (minimise request) held now same)
@@ -106,23 +140,27 @@ partly_written request (Some held) mid now text summary made same (inr (kept, ho
 
 -- ---- `check`
 
-module _ (inputs : Inputs) (held : Option Held) (circuit : Circuit) (labels : Labels) (rows : List (List Bool)) (read : ReadsInputs inputs held circuit labels rows) where
+module _ (inputs : Inputs) (held : Option Held) (circuit : Circuit) (labels : Labels) (reading : Reading) (read : ReadsInputs inputs held circuit labels reading) where
+  abbrev rows : List (List Bool)
+  rows = reading.trace.rows
+
   accepted_told : (now : Option Held) (numbers : Accepted) → now ≡ held → IsJudged circuit labels rows (Ok numbers) → Gives (check inputs) held now (Judged numbers)
   accepted_told now numbers same (ends, minimal, is) = stays (λ held. HasCounted inputs held numbers) _ (λ held counted. Checks.accepted numbers counted) held now same
-      (input_told inputs held circuit labels rows (λ design rows. IsAccepted (machine_of inputs.names design) rows × (numbers ≡ accepted_of (design_labels inputs.names design) rows)) read
-      (λ wide. (accepted_by (machine_of inputs.names read.netlist.design) circuit read.netlist.machine rows wide ends minimal, is ∙ ap (λ l. accepted_of l rows) read.netlist.labelled)))
+      (input_told inputs held circuit labels reading
+      (λ design reading. IsAccepted (machine_of inputs.names design) reading.trace.rows × (numbers ≡ accepted_of (design_labels inputs.names design) reading.trace.rows)) read
+      (accepted_by (machine_of inputs.names read.netlist.design) circuit read.netlist.machine rows read.wide ends minimal, is ∙ ap (λ l. accepted_of l rows) read.netlist.labelled))
 
   rejected_told : (now : Option Held) (counts : CallCounts) (stop : Stop) → now ≡ held → IsJudged circuit labels rows (Err stop) → Stops (check inputs) held now counts stop
   rejected_told now counts (Refused NotFirstAtLast) same none = stays (HasNotFirst inputs) _ (λ held not_first. Checks.not_first not_first) held now same
-      (input_told inputs held circuit labels rows (λ design rows. IsFirstAtLast (machine_of inputs.names design) rows → ⊥) read
-      (λ wide first. none (must_end (machine_of inputs.names read.netlist.design) circuit read.netlist.machine rows wide first)))
+      (input_told inputs held circuit labels reading (λ design reading. IsFirstAtLast (machine_of inputs.names design) reading.trace.rows → ⊥) read
+      (λ first. none (must_end (machine_of inputs.names read.netlist.design) circuit read.netlist.machine rows read.wide first)))
   rejected_told now counts (Refused (Cut i)) same (ends, first) = stays (λ held. HasCut inputs held i) _ (λ held goes. Checks.cut i goes) held now same
-      (input_told inputs held circuit labels rows (λ design rows. HasLeastCut (machine_of inputs.names design) rows i) read
-      (λ wide. least_by (machine_of inputs.names read.netlist.design) circuit read.netlist.machine rows wide i ends first))
+      (input_told inputs held circuit labels reading (λ design reading. HasLeastCut (machine_of inputs.names design) reading.trace.rows i) read
+      (least_by (machine_of inputs.names read.netlist.design) circuit read.netlist.machine rows read.wide i ends first))
   rejected_told now counts (Refused NoViolation) same none = absurd none
   rejected_told now counts (Refused (Netlist why)) same none = absurd none
   rejected_told now counts (Refused (Limit what)) same none = absurd none
-  rejected_told now counts (Refused WaveformForm) same none = absurd none
+  rejected_told now counts (Refused (Waveform why)) same none = absurd none
   rejected_told now counts ReadFault same none = absurd none
   rejected_told now counts WriteFault same none = absurd none
   rejected_told now counts Memory same reason = unchanged (check inputs) held now same

@@ -1,19 +1,20 @@
 -- What the words that were read ask for.
-use Rattle.bm_cli.specs.TopNames.{TopNames}
+use Rattle.std.specs.Prelude.{option_copied}
+use Rattle.first_form.specs.TopNames.{names_of}
 use Rattle.bm_cli.specs.Words.{Command, Inputs, Request, check, minimise}
 use Rattle.bm_cli.specs.declared.words.Asked.{Asked}
 use Rattle.bm_cli.specs.declared.words.Asked.TheVariants as asked
 use Rattle.bm_cli.specs.declared.words.Inputs.{Inputs as Given}
 use Rattle.bm_cli.specs.declared.words.Minimise.{Minimise}
-use Rattle.bm_cli.specs.declared.words.Names.{Names}
-
--- the names, byte by byte
-abbrev pub names_of : Names → TopNames
-names_of names = record { top = names.top.now; clock = names.clock.now; check = names.check.now }
 
 -- what a command reads, byte by byte
 abbrev pub given_inputs : Given → Inputs
-given_inputs found = record { netlist = found.netlist.now; waveform = found.waveform.now; names = names_of found.names }
+given_inputs found = record {
+  netlist = found.netlist.now;
+  waveform = found.waveform.now;
+  names = names_of found.names;
+  scope = option_copied found.scope;
+}
 
 -- what `minimise` is asked for, byte by byte
 abbrev pub request_of : Minimise → Request

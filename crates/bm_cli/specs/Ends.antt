@@ -10,8 +10,8 @@ use Rattle.bm_cli.specs.declared.answer.Answer.TheVariants.{Refused as Refusing}
 use Rattle.bm_cli.specs.declared.answer.Stop.{Stop}
 use Rattle.bm_cli.specs.declared.answer.Stop.TheVariants.{Refused, ReadFault, WriteFault, Memory}
 
--- On the way from what a shelf held to what it should hold, the files with these names are whole up to one; that one is as it
--- was or has a prefix of its text, and the later ones are as they were.
+-- On the way from what a shelf held to what it should hold, the files with these names are whole up to one; that one is
+-- as it was or has a prefix of its text, and the later ones are as they were.
 abbrev pub IsPartly : List (List ℕ) → Held → Held → Held → Type 0
 IsPartly [] held whole now = now ≡ held
 IsPartly (name ∷ names) held whole now =
@@ -22,7 +22,8 @@ IsPartly (name ∷ names) held whole now =
 -- The shelf is as it was, or on the way to what some answer of the command says.
 abbrev pub IsOnTheWay : Command → Held → Held → Type 0
 IsOnTheWay command held now = (now ≡ held)
-    ⊎ ((answer : Answer) × (whole : Held) × Answers command held answer whole × IsPartly (writes_of command) held whole now)
+    ⊎ ((answer : Answer) × (whole : Held) × Answers command held answer whole
+    × IsPartly (writes_of command) held whole now)
 
 -- the counts of the files before and after
 pub record CallCounts : Type 0 where

@@ -1,21 +1,26 @@
--- What netlists and waveforms of the first form are, of bytes.
-use Rattle.std.specs.Prelude.{◌≡◌, ◌<◌, ◌≤◌, ℕ, List, Bool, Option, All, IfSome, length}
+-- What netlists of the first form and waveforms are, of bytes.
+use Rattle.std.specs.Prelude.{◌≡◌, ◌⊎◌, ◌<◌, ◌≤◌, ℕ, List, Bool, Option, None, Some, Ok, Err, length, nat_lt, if◌then◌else◌}
 use Rattle.bm_base.specs.Size.{limit_of}
+use Rattle.bm_base.specs.declared.size.Size.{Size}
 use Rattle.bm_base.specs.declared.size.Size.TheVariants as size
 use Rattle.trace_rows.specs.declared.labels.Labels.{Labels}
-use Rattle.vcd_writer.specs.Waveform.{vcd}
+use Rattle.vcd_header.specs.declared.fault.VcdFault.{VcdFault}
+use Rattle.vcd_reader.specs.Rows.{Reading}
+use Rattle.vcd_reader.specs.Waveform.{limited, waveform}
 use Rattle.vlog_parse.specs.Refusals.{IsInProfile}
 use Rattle.vlog_tree.specs.declared.design.Design.{Design}
+use Rattle.vlog_tree.specs.Keys.{input_keys, register_keys}
+use Rattle.vlog_tree.specs.Machine.{Machine}
 use Rattle.vlog_tree.specs.Spelling.{Spells}
-use Rattle.bm_cli.specs.FirstForm.{IsFirstForm}
-use Rattle.bm_cli.specs.Labels.{labels_of}
-use Rattle.bm_cli.specs.Means.{IsMachine, machine_of}
-use Rattle.bm_cli.specs.TopNames.{TopNames}
-use Rattle.bm_cli.specs.Waveform.{AreWords}
-use Rattle.bm_cli.specs.Wired.{items_of}
-use Rattle.bm_cli.specs.declared.netlist.circuit.Circuit.{Circuit}
+use Rattle.first_form.specs.FirstForm.{IsFirstForm}
+use Rattle.first_form.specs.Labels.{labels_of}
+use Rattle.first_form.specs.Means.{IsMachine, machine_of}
+use Rattle.first_form.specs.TopNames.{TopNames}
+use Rattle.first_form.specs.Wired.{items_of}
+use Rattle.first_form.specs.declared.circuit.Circuit.{Circuit}
 
--- The bytes spell the design, and their tokens have no word outside the profile, no number outside the rules and none too deep.
+-- The bytes spell the design, and their tokens have no word outside the profile, no number outside the rules and none
+-- too deep.
 pub record SpellsInProfile (bytes : List ℕ) (design : Design) : Type 0 where
   pub spelled : Spells bytes design
   pub profile : IsInProfile spelled.tokens
@@ -25,10 +30,31 @@ pub record SpellsNetlist (names : TopNames) (bytes : List ℕ) (design : Design)
   pub text : SpellsInProfile bytes design
   pub form : IsFirstForm names design
 
--- The bytes are a netlist of the first form, and this is its design.
-pub record IsNetlist (names : TopNames) (bytes : List ℕ) (design : Design) : Type 0 where
+-- how many registers and input bits a machine has
+abbrev pub register_count : Machine → ℕ
+register_count machine = length (register_keys machine)
+
+abbrev pub input_count : Machine → ℕ
+input_count machine = length (input_keys machine)
+
+-- the first of these sizes that passes its limit
+abbrev pub size_passed : ℕ → ℕ → Option Size
+size_passed registers inputs =
+    if nat_lt (limit_of size.Registers) registers then Some size.Registers
+    else (if nat_lt (limit_of size.Inputs) inputs then Some size.Inputs else None)
+
+abbrev pub machine_size_passed : Machine → Option Size
+machine_size_passed machine = size_passed (register_count machine) (input_count machine)
+
+-- The bytes are no longer than a netlist may be, and spell a design of the first form.
+pub record IsOfForm (names : TopNames) (bytes : List ℕ) (design : Design) : Type 0 where
   pub short : length bytes ≤ limit_of size.Netlist
   pub text : SpellsNetlist names bytes design
+
+-- The bytes are a netlist of the first form, whose machine is within the limits, and this is its design.
+pub record IsNetlist (names : TopNames) (bytes : List ℕ) (design : Design) : Type 0 where
+  pub form : IsOfForm names bytes design
+  pub small : machine_size_passed (machine_of names design) ≡ None
 
 -- the labels of a design's traces
 abbrev pub design_labels : TopNames → Design → Labels
@@ -38,27 +64,26 @@ design_labels names design = labels_of names (items_of design.modules)
 pub record IsRead (names : TopNames) (bytes : List ℕ) (circuit : Circuit) (labels : Labels) : Type 0 where
   pub design : Design
   pub text : SpellsNetlist names bytes design
+  pub small : machine_size_passed (machine_of names design) ≡ None
   pub machine : IsMachine (machine_of names design) circuit
   pub labelled : labels ≡ design_labels names design
-  pub words : AreWords labels
 
--- The bytes are the written waveform of these rows, without checker bits or with one for each row, of any value.
-pub record SpellsRows (labels : Labels) (bytes : List ℕ) (rows : List (List Bool)) : Type 0 where
-  pub some : 0 < length rows
-  pub widths : All (λ row. length row ≡ length labels.ports) rows
-  pub checks : Option (List Bool)
-  pub each : IfSome checks (λ bits. length bits ≡ length rows)
-  pub text : bytes ≡ vcd rows labels checks
+-- The bytes are no longer than a waveform may be, and this is what they are as one: the rows and the count of unknown
+-- bits, or why there are none. The rows are of these labels, in the scope of this name or, without one, in the first
+-- that gives every bit; and their states have so many registers.
+pub record IsWaveform (labels : Labels) (scope : Option (List ℕ)) (registers : ℕ) (bytes : List ℕ)
+    (reading : Reading) : Type 0 where
+  pub short : length bytes ≤ limit_of size.Waveform
+  pub text : limited registers (waveform bytes labels scope) ≡ Ok reading
 
--- The bytes are a waveform of the first form, and these are its rows.
-pub record IsWaveform (labels : Labels) (bytes : List ℕ) (rows : List (List Bool)) : Type 0 where
-  pub short : length bytes ≤ 1048576
-  pub text : SpellsRows labels bytes rows
+pub record IsWaveformFault (labels : Labels) (scope : Option (List ℕ)) (registers : ℕ) (bytes : List ℕ)
+    (why : VcdFault) : Type 0 where
+  pub short : length bytes ≤ limit_of size.Waveform
+  pub text : limited registers (waveform bytes labels scope) ≡ Err why
 
--- The bytes are no netlist of the first form.
-abbrev pub IsNoNetlist : TopNames → List ℕ → Type 0
-IsNoNetlist names bytes = (design : Design) → IsNetlist names bytes design → ⊥
-
--- The bytes are no waveform of the first form.
-abbrev pub IsNoWaveform : Labels → List ℕ → Type 0
-IsNoWaveform labels bytes = (rows : List (List Bool)) → IsWaveform labels bytes rows → ⊥
+-- A limit that the bytes of a netlist pass: they are too long, or they are of the form and the machine has too many
+-- registers or input bits.
+abbrev pub IsTooLarge : TopNames → List ℕ → Size → Type 0
+IsTooLarge names bytes what =
+    ((what ≡ size.Netlist) × (limit_of size.Netlist < length bytes))
+    ⊎ ((design : Design) × IsOfForm names bytes design × (machine_size_passed (machine_of names design) ≡ Some what))

@@ -31,18 +31,19 @@ pub record IsUnread (command : Command) (before after : Outside) : Type 0 where
   pub rose : SomeRose (reads_of command) before.reads after.reads
   pub holds : after.held ≡ before.held
 
--- A file that is written failed: it is as it was or has a prefix of its text, those before it are whole, those after it are
--- as they were, and nothing is printed.
+-- A file that is written failed: it is as it was or has a prefix of its text, those before it are whole, those after it
+-- are as they were, and nothing is printed.
 pub record IsUnwritten (command : Command) (before after : Outside) : Type 0 where
   pub rose : SomeRose (writes_of command) before.writes after.writes
   pub holds : Tells (IsOnTheWay command) before.held after.held
   pub line : after.taken ≡ before.taken
 
--- Only the printing failed: the shelf holds what the answer says, and a prefix of its line is printed. Or it was the line of
--- a failed read that could not be printed.
+-- Only the printing failed: the shelf holds what the answer says, and a prefix of its line is printed. Or it was the
+-- line of a failed read that could not be printed.
 pub record IsUnprinted (command : Command) (before after : Outside) : Type 0 where
   pub rose : Rose before.faults after.faults
-  pub answer : ((answer : Answer) × Gives command before.held after.held answer × GainsPart (line_of answer) before.taken after.taken)
+  pub answer : ((answer : Answer) × Gives command before.held after.held answer
+      × GainsPart (line_of answer) before.taken after.taken)
       ⊎ (IsUnread command before after × GainsPart read_fault_line before.taken after.taken)
 
 -- There was no memory: the files are as after a failed write, and a prefix of a line is printed, which may be nothing.
@@ -60,7 +61,8 @@ pub record Keeps (command : Command) (before : Outside) (result : Status) (after
   pub comes : (held whole : Held) (answer : Answer) → before.held ≡ Some held → Answers command held answer whole
       → (result ≡ status_of answer) ⊎ (is_fault result ≡ true)
   -- 5 comes only of a file that it reads, and 6 of a file that it writes or of the sink
-  pub unread : result ≡ status.ReadFault → IsUnread command before after × GainsLine read_fault_line before.taken after.taken
+  pub unread : result ≡ status.ReadFault → IsUnread command before after
+      × GainsLine read_fault_line before.taken after.taken
   pub unwritten : result ≡ status.WriteFault → IsUnwritten command before after ⊎ IsUnprinted command before after
   pub memory : result ≡ status.Memory → IsOutOfMemory command before after
   -- no count of a file changes that it neither reads nor writes

@@ -3,33 +3,29 @@ use Rattle.std.specs.Prelude.{◌≡◌, ◌≤◌, ℕ, List, length}
 use Rattle.bm_base.specs.Size.{limit_of}
 use Rattle.bm_base.specs.declared.size.Size.TheVariants as size
 use Rattle.vlog_lexer.specs.Faults.{FailsAt}
-use Rattle.vlog_lexer.specs.declared.fault.LexFault.TheVariants as lex
 use Rattle.vlog_parse.specs.Refusals.{IsCause}
 use Rattle.vlog_parse.specs.declared.parse_fault.ParseFault.{ParseFault}
 use Rattle.vlog_parse.specs.declared.parse_fault.ParseFault.TheVariants as parse
 use Rattle.vlog_tokens.specs.Tokens.{AreTokens}
 use Rattle.vlog_tokens.specs.Toks.{Lexed}
 use Rattle.vlog_tree.specs.declared.design.Design.{Design}
-use Rattle.bm_cli.specs.FirstForm.{IsFirstForm}
-use Rattle.bm_cli.specs.Input.{IsNetlist, SpellsInProfile}
-use Rattle.bm_cli.specs.TopNames.{TopNames}
+use Rattle.first_form.specs.FirstForm.{IsFirstForm}
+use Rattle.bm_cli.specs.Input.{IsOfForm, SpellsInProfile}
+use Rattle.first_form.specs.TopNames.{TopNames}
 use Rattle.bm_cli.specs.declared.netlist.fault.NetlistFault.{NetlistFault}
 use Rattle.bm_cli.specs.declared.netlist.fault.NetlistFault.TheVariants as fault
 
 -- The bytes have tokens, and this is why they give no design.
 abbrev pub IsParseFault : List ℕ → ParseFault → Type 0
-IsParseFault bytes why = (lexed : Lexed) × AreTokens bytes lexed.list × (lexed.source_len ≡ length bytes) × IsCause lexed why
+IsParseFault bytes why =
+    (lexed : Lexed) × AreTokens bytes lexed.list × (lexed.source_len ≡ length bytes) × IsCause lexed why
 
--- The reason applies to the bytes, and none before it does: first those of the tokens, then those of the grammar, then the form.
+-- The reason applies to the bytes, and none before it does: first those of the tokens, then those of the grammar, then
+-- the form.
 abbrev pub IsReason : TopNames → List ℕ → NetlistFault → Type 0
-IsReason names bytes (fault.BadByte at) = FailsAt bytes (lex.BadByte at)
-IsReason names bytes (fault.OpenComment at) = FailsAt bytes (lex.OpenComment at)
-IsReason names bytes (fault.OpenString at) = FailsAt bytes (lex.OpenString at)
-IsReason names bytes (fault.Directive at) = FailsAt bytes (lex.Directive at)
-IsReason names bytes (fault.Outside at) = IsParseFault bytes (parse.Outside at)
-IsReason names bytes (fault.Number at) = IsParseFault bytes (parse.Number at)
-IsReason names bytes (fault.TooDeep at) = IsParseFault bytes (parse.TooDeep at)
-IsReason names bytes (fault.Syntax at) = IsParseFault bytes (parse.Syntax at)
+IsReason names bytes (fault.Lex why) = FailsAt bytes why
+IsReason names bytes (fault.Parse parse.Memory) = ⊥
+IsReason names bytes (fault.Parse why) = IsParseFault bytes why
 IsReason names bytes fault.Form = (design : Design) × SpellsInProfile bytes design × (IsFirstForm names design → ⊥)
 
 -- The bytes are refused as a netlist for this reason. They are not too long to be read.
@@ -39,13 +35,17 @@ pub record IsNetlistFault (names : TopNames) (bytes : List ℕ) (why : NetlistFa
 
 -- the reason, without the place of tokens that spell no design
 abbrev pub placeless : NetlistFault → NetlistFault
-placeless (fault.Syntax at) = fault.Syntax 0
+placeless (fault.Parse (parse.Syntax at)) = fault.Parse (parse.Syntax 0)
 placeless why = why
 
 -- A netlist is refused for one reason at most, but for the place of tokens that spell no design.
 abbrev pub IsOneNetlistFault : Type 0
-IsOneNetlistFault = (names : TopNames) (bytes : List ℕ) (why other : NetlistFault) → IsNetlistFault names bytes why → IsNetlistFault names bytes other → placeless why ≡ placeless other
+IsOneNetlistFault =
+    (names : TopNames) (bytes : List ℕ) (why other : NetlistFault) → IsNetlistFault names bytes why
+    → IsNetlistFault names bytes other → placeless why ≡ placeless other
 
 -- No bytes are both a netlist of the first form and refused.
 abbrev pub IsNetlistOrFault : Type 0
-IsNetlistOrFault = (names : TopNames) (bytes : List ℕ) (design : Design) (why : NetlistFault) → IsNetlist names bytes design → IsNetlistFault names bytes why → ⊥
+IsNetlistOrFault =
+    (names : TopNames) (bytes : List ℕ) (design : Design) (why : NetlistFault) → IsOfForm names bytes design
+    → IsNetlistFault names bytes why → ⊥

@@ -16,8 +16,8 @@ GainsLine line taken taken_now = taken_now ≡ option_map (λ bytes. bytes ++ li
 abbrev pub GainsPart : List ℕ → Option (List ℕ) → Option (List ℕ) → Type 0
 GainsPart line taken taken_now = (kept : ℕ) × GainsLine (take kept line) taken taken_now
 
--- The line is printed, and the result is its status; or the sink failed, which has this cause, or there was no memory, and a
--- prefix of the line is printed.
+-- The line is printed, and the result is its status; or the sink failed, which has this cause, or there was no memory,
+-- and a prefix of the line is printed.
 abbrev pub Prints : Status → List ℕ → Status → Type 0 → Option (List ℕ) → Option (List ℕ) → Type 0
 Prints own line result cause taken taken_now =
     ((result ≡ own) × GainsLine line taken taken_now)
@@ -26,9 +26,11 @@ Prints own line result cause taken taken_now =
 
 -- the same by how a command ends: after a failed write, and where there was no memory, nothing is printed
 abbrev pub PrintsEnd : Result Answer Stop → Status → Type 0 → Option (List ℕ) → Option (List ℕ) → Type 0
-PrintsEnd (Ok answer) result cause taken taken_now = Prints (status_of answer) (line_of answer) result cause taken taken_now
+PrintsEnd (Ok answer) result cause taken taken_now =
+    Prints (status_of answer) (line_of answer) result cause taken taken_now
 PrintsEnd (Err (Refused why)) result cause taken taken_now =
     Prints (refusal_status why) (refusal_line why) result cause taken taken_now
-PrintsEnd (Err ReadFault) result cause taken taken_now = Prints status.ReadFault read_fault_line result cause taken taken_now
+PrintsEnd (Err ReadFault) result cause taken taken_now =
+    Prints status.ReadFault read_fault_line result cause taken taken_now
 PrintsEnd (Err WriteFault) result cause taken taken_now = (result ≡ status.WriteFault) × (taken_now ≡ taken)
 PrintsEnd (Err Memory) result cause taken taken_now = (result ≡ status.Memory) × (taken_now ≡ taken)

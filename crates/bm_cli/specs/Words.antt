@@ -1,18 +1,20 @@
 -- The words of a command line.
-use Rattle.std.specs.Prelude.{◌≡◌, ◌≢◌, ℕ, List, [], ◌∷◌, map, slice_get, codes, Some, String}
+use Rattle.std.specs.Prelude.{◌≡◌, ◌≢◌, ℕ, List, [], ◌∷◌, ◌++◌, map, slice_get, codes, Option, None, Some, IfSome, String}
 use Rattle.std.specs.declared.alloc.Global.{Global}
 use Rattle.std.specs.String.{string_bytes}
-use Rattle.bm_cli.specs.TopNames.{TopNames}
+use Rattle.first_form.specs.TopNames.{TopNames}
 
 -- the bytes of each word
 abbrev pub texts : List (String Global) → List (List ℕ)
 texts words = map string_bytes words
 
--- what a command reads: the names of its netlist and its waveform, and the names that it is given
+-- what a command reads: the names of its netlist and its waveform, the names that it is given, and that of the scope of
+-- the waveform, if it is given
 pub record Inputs : Type 0 where
   pub netlist : List ℕ
   pub waveform : List ℕ
   pub names : TopNames
+  pub scope : Option (List ℕ)
 
 -- what `minimise` is asked for: what it reads, and the name of the file that it writes
 pub record Request : Type 0 where
@@ -41,6 +43,7 @@ IsFileName name = IsName name × (slice_get name 0 ≢ Some 45)
 pub record HasFitNames (inputs : Inputs) : Type 0 where
   pub files : IsFileName inputs.netlist × IsFileName inputs.waveform
   pub names : IsName inputs.names.top × IsName inputs.names.clock × IsName inputs.names.check
+  pub scope : IfSome inputs.scope IsName
   pub different : inputs.netlist ≢ inputs.waveform
 
 -- The output is another file.
@@ -57,11 +60,21 @@ HasFit (check inputs) = HasFitNames inputs
 abbrev pub options : TopNames → List (List ℕ)
 options names = codes "--top" ∷ names.top ∷ codes "--clock" ∷ names.clock ∷ codes "--check" ∷ names.check ∷ []
 
+abbrev pub scope_option : Option (List ℕ) → List (List ℕ)
+scope_option None = []
+scope_option (Some scope) = codes "--scope" ∷ scope ∷ []
+
+-- the options of what a command reads
+abbrev pub given : Inputs → List (List ℕ)
+given inputs = options inputs.names ++ scope_option inputs.scope
+
 -- The words are the program's name, the command, its files and its options, in this order.
 abbrev pub HasForm : List (List ℕ) → Command → Type 0
 HasForm words (minimise request) = (program : List ℕ)
-    × (words ≡ program ∷ codes "minimise" ∷ request.inputs.netlist ∷ request.inputs.waveform ∷ request.out ∷ options request.inputs.names)
-HasForm words (check inputs) = (program : List ℕ) × (words ≡ program ∷ codes "check" ∷ inputs.netlist ∷ inputs.waveform ∷ options inputs.names)
+    × (words ≡ program ∷ codes "minimise" ∷ request.inputs.netlist ∷ request.inputs.waveform ∷ request.out
+    ∷ given request.inputs)
+HasForm words (check inputs) =
+    (program : List ℕ) × (words ≡ program ∷ codes "check" ∷ inputs.netlist ∷ inputs.waveform ∷ given inputs)
 
 -- They have the command's form, and its names are fit.
 pub record Asks (words : List (List ℕ)) (command : Command) : Type 0 where

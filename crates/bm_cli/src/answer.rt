@@ -1,16 +1,18 @@
 //! What a command answers, and the line that it prints.
 ghost use Rattle.std.specs.Prelude.{◌≡◌, IfOk};
 ghost use Rattle.std.specs.String.{string_bytes};
-ghost use Rattle.bm_cli.specs.Answer.{limit_line};
+ghost use Rattle.bm_cli.specs.Answer.{cut_line, limit_line};
 
 use crate::netlist::fault::NetlistFault;
+use crate::waveform::{waveform_line, waveform_status};
 use bm_base::{NoMemory, Size, Status};
 use std::alloc::{AllocError, AllocFailed, Global};
+use vcd_header::VcdFault;
 use vlog_lexer::LexFault;
 use vlog_parse::ParseFault;
 
 /// What `minimise` made of a stimulus.
-#[derive(Clone, Copy, Debug, PartialEq, Eq)]
+#[derive(Clone, Copy, Debug)]
 pub struct Summary {
     /// Cycles and events of the whole stimulus.
     pub cycles_before: usize,
@@ -18,6 +20,8 @@ pub struct Summary {
     /// Cycles and events of the trace that was written.
     pub cycles: usize,
     pub events: u64,
+    /// How many bits the stimulus gives as `x` or `z`.
+    pub unknown: u64,
 }
 
 impl Summary {
@@ -31,15 +35,16 @@ impl Summary {
             events_before,
             cycles,
             events,
+            unknown,
         } = *self;
         format!(in alloc;
-            "minimised: cycles {cycles_before} to {cycles}, events {events_before} to {events}, windows 0 certified, 0 open, x 0\n"
+            "minimised: cycles {cycles_before} to {cycles}, events {events_before} to {events}, windows 0 certified, 0 open, x {unknown}\n"
         )
     }
 }
 
 /// What `check` counts in a trace that it accepts.
-#[derive(Clone, Copy, Debug, PartialEq, Eq)]
+#[derive(Clone, Copy, Debug)]
 pub struct Accepted {
     pub cycles: usize,
     pub events: u64,
@@ -57,7 +62,7 @@ impl Accepted {
 }
 
 /// Why a command's work was not done, where a line says so.
-#[derive(Clone, Copy, Debug, PartialEq, Eq)]
+#[derive(Debug, Drop)]
 pub enum Refusal {
     /// No cycle of the stimulus violates.
     NoViolation,
@@ -69,8 +74,8 @@ pub enum Refusal {
     Netlist(NetlistFault),
     /// A size passes its limit.
     Limit(Size),
-    /// The waveform is not of the first form.
-    WaveformForm,
+    /// The waveform is refused, or its rows pass a limit.
+    Waveform(VcdFault),
 }
 
 impl Refusal {
@@ -83,25 +88,32 @@ impl Refusal {
             Refusal::NoViolation | Refusal::NotFirstAtLast | Refusal::Cut { .. } => Status::No,
             Refusal::Netlist(_) => Status::Netlist,
             Refusal::Limit(_) => Status::Limit,
-            Refusal::WaveformForm => Status::Waveform,
+            Refusal::Waveform(fault) => waveform_status(fault),
         }
     }
 
-    fn line(&self, alloc: Global) -> Result<String, AllocError>
-        ensures { IfOk result (λ line. string_bytes line ≡ refusal_line self.now) }
+    fn line(&self, alloc: Global) -> Result<Vec<u8>, NoMemory>
+        ensures { IfOk result (λ line. line.items ≡ refusal_line self.now) }
     {
         match self {
-            Refusal::NoViolation => String::from_str(alloc, "no violation\n"),
-            Refusal::NotFirstAtLast => String::from_str(alloc, "no: N1\n"),
-            Refusal::Cut { cycle } => format!(in alloc; "no: N2 cycle {cycle}\n"),
-            Refusal::Netlist(fault) => fault.line(alloc),
-            Refusal::Limit(what) => limit_line(alloc, *what),
-            Refusal::WaveformForm => String::from_str(alloc, "waveform refused: form\n"),
+            Refusal::NoViolation => Ok(String::from_str(alloc, "no violation\n")?.into_bytes()),
+            Refusal::NotFirstAtLast => Ok(String::from_str(alloc, "no: N1\n")?.into_bytes()),
+            Refusal::Cut { cycle } => Ok(cut_line(alloc, *cycle)?.into_bytes()),
+            Refusal::Netlist(fault) => Ok(fault.line(alloc)?.into_bytes()),
+            Refusal::Limit(what) => Ok(limit_line(alloc, *what)?.into_bytes()),
+            Refusal::Waveform(fault) => waveform_line(alloc, fault),
         }
     }
 }
 
-fn limit_line(alloc: Global, what: Size) -> Result<String, AllocError>
+fn cut_line(alloc: Global, cycle: usize) -> Result<String, AllocError>
+    ensures { IfOk result (λ line. string_bytes line ≡ cut_line cycle) }
+{
+    format!(in alloc; "no: N2 cycle {cycle}\n")
+}
+
+/// The line that says that a size passes its limit.
+pub fn limit_line(alloc: Global, what: Size) -> Result<String, AllocError>
     ensures { IfOk result (λ line. string_bytes line ≡ limit_line what) }
 {
     let limit = what.limit();
@@ -109,7 +121,7 @@ fn limit_line(alloc: Global, what: Size) -> Result<String, AllocError>
 }
 
 /// What a command answers.
-#[derive(Clone, Copy, Debug, PartialEq, Eq)]
+#[derive(Debug, Drop)]
 pub enum Answer {
     /// The trace that was made is written.
     Minimised(Summary),
@@ -131,19 +143,19 @@ impl Answer {
     }
 
     /// The line, with its newline.
-    pub fn line(&self, alloc: Global) -> Result<String, AllocError>
-        ensures { IfOk result (λ line. string_bytes line ≡ line_of self.now) }
+    pub fn line(&self, alloc: Global) -> Result<Vec<u8>, NoMemory>
+        ensures { IfOk result (λ line. line.items ≡ line_of self.now) }
     {
         match self {
-            Answer::Minimised(summary) => summary.line(alloc),
-            Answer::Accepted(accepted) => accepted.line(alloc),
+            Answer::Minimised(summary) => Ok(summary.line(alloc)?.into_bytes()),
+            Answer::Accepted(accepted) => Ok(accepted.line(alloc)?.into_bytes()),
             Answer::Refused(refusal) => refusal.line(alloc),
         }
     }
 }
 
 /// Why a command ends before its work is done.
-#[derive(Clone, Copy, Debug, PartialEq, Eq)]
+#[derive(Debug, Drop)]
 pub enum Stop {
     /// It is refused, and a line says why.
     Refused(Refusal),
@@ -162,13 +174,10 @@ impl From<LexFault> for Stop {
     ghost from_gives = { λ fault stop. stop ≡ stop_of_lex fault };
 
     fn from(fault: LexFault) -> Stop {
-        Stop::Refused(Refusal::Netlist(match fault {
-            LexFault::BadByte { at } => NetlistFault::BadByte { at },
-            LexFault::OpenComment { at } => NetlistFault::OpenComment { at },
-            LexFault::OpenString { at } => NetlistFault::OpenString { at },
-            LexFault::Directive { at } => NetlistFault::Directive { at },
-            LexFault::Memory => return Stop::Memory,
-        }))
+        match fault {
+            LexFault::Memory => Stop::Memory,
+            _ => Stop::Refused(Refusal::Netlist(NetlistFault::Lex(fault))),
+        }
     }
 }
 
@@ -179,13 +188,10 @@ impl From<ParseFault> for Stop {
     ghost from_gives = { λ fault stop. stop ≡ stop_of_parse fault };
 
     fn from(fault: ParseFault) -> Stop {
-        Stop::Refused(Refusal::Netlist(match fault {
-            ParseFault::Outside { at } => NetlistFault::Outside { at },
-            ParseFault::Number { at } => NetlistFault::Number { at },
-            ParseFault::TooDeep { at } => NetlistFault::TooDeep { at },
-            ParseFault::Syntax { at } => NetlistFault::Syntax { at },
-            ParseFault::Memory => return Stop::Memory,
-        }))
+        match fault {
+            ParseFault::Memory => Stop::Memory,
+            _ => Stop::Refused(Refusal::Netlist(NetlistFault::Parse(fault))),
+        }
     }
 }
 

@@ -1,14 +1,11 @@
 //! Laws of the forms that the commands read. Each is the contract of a function that does nothing.
-ghost use Rattle.std.specs.Prelude.{◌≡◌, Bool, List};
 ghost use Rattle.bm_cli.specs.Agreement.{IsAcceptedAgain};
 ghost use Rattle.bm_cli.specs.Commands.{HasOneStatus};
-ghost use Rattle.bm_cli.specs.Input.{SpellsRows};
-ghost use Rattle.bm_cli.specs.LoopFree.{FirstFormIsLoopFree};
+ghost use Rattle.first_form.specs.LoopFree.{FirstFormIsLoopFree};
 ghost use Rattle.bm_cli.specs.NetlistFaults.{IsNetlistOrFault, IsOneNetlistFault};
-ghost use Rattle.bm_cli.specs.Waveform.{AreScalars, AreWords};
 ghost use Rattle.bm_cli.specs.Words.{Inputs, Request, check, minimise};
 
-use trace_rows::Labels;
+use vcd_reader::laws::{shorter_fits, waveforms_fit};
 use vlog_lexer::laws::{one_fault, one_token_list, tokens_or_fault};
 use vlog_parse::laws::bytes_spell_one_design;
 
@@ -30,14 +27,6 @@ pub fn netlist_or_fault()
     bytes_spell_one_design();
 }
 
-/// Under the same labels, whose names are words, bytes are the waveform of one list of rows at most.
-pub fn bytes_are_one_trace(labels: &Labels, bytes: &[u8])
-    requires scalars { AreScalars labels.now.ports }
-    requires words { AreWords labels.now }
-    ensures { (rows others : List (List Bool)) → SpellsRows labels.now bytes.now rows
-        → SpellsRows labels.now bytes.now others → rows ≡ others }
-{}
-
 /// A netlist of the first form is loop-free: each bit has a value in every state under every row.
 pub fn netlists_are_loop_free()
     ensures { FirstFormIsLoopFree }
@@ -46,7 +35,10 @@ pub fn netlists_are_loop_free()
 /// What `minimise` wrote, `check` accepts, where it is no longer than a waveform may be.
 pub fn check_accepts_what_minimise_wrote()
     ensures { IsAcceptedAgain }
-{}
+{
+    waveforms_fit();
+    shorter_fits();
+}
 
 /// What `minimise` answers on given bytes has one status.
 pub fn minimise_has_one_status()

@@ -1,25 +1,17 @@
-//! The netlist: its text, and the first form, which is one flat module of `and`, `not` and plain registers.
-ghost use Rattle.std.specs.Prelude.{◌≡◌, length, IfErr, IfOk};
-ghost use Rattle.bm_cli.specs.Asked.{names_of};
-ghost use Rattle.bm_cli.specs.Circuit.{IsInOrder};
-ghost use Rattle.bm_cli.specs.Input.{IsRead, SpellsInProfile};
-ghost use Rattle.bm_cli.specs.Reading.{StopsFor};
-ghost use Rattle.bm_cli.specs.TopNames.{TopNames};
-ghost use Rattle.bm_cli.specs.Waveform.{AreScalars};
+//! The netlist, from its text to its circuit.
+ghost use Rattle.std.specs.Prelude.{◌≡◌, length, IfErr, IfOk, None};
+ghost use Rattle.first_form.specs.Circuit.{IsInOrder};
+ghost use Rattle.bm_cli.specs.Input.{IsRead, SpellsInProfile, size_passed};
+ghost use Rattle.bm_cli.specs.Reading.{IsSizeStop, StopsFor};
+ghost use Rattle.first_form.specs.TopNames.{TopNames, names_of};
+ghost use Rattle.first_form.specs.Waveform.{AreScalars};
 
-pub mod circuit;
-mod conditions;
-pub mod deletion;
 pub mod fault;
-mod meaning;
-pub mod simulation;
-mod wiring;
 
 use crate::answer::{Refusal, Stop};
-use crate::form::FormFault;
-use crate::words::Names;
-use circuit::Circuit;
+use bm_base::Size;
 use fault::NetlistFault;
+use first_form::{Circuit, FormFault, Names, circuit_of};
 use std::alloc::Global;
 use trace_rows::Labels;
 use vlog_lexer::lex;
@@ -34,10 +26,35 @@ pub fn read(alloc: Global, bytes: &[u8], names: &Names) -> Result<(Circuit, Labe
     ensures stops { IfErr result (λ stop. StopsFor (names_of names.now) bytes.now stop) }
 {
     let design = design(alloc, bytes)?;
-    match wiring::circuit(alloc, &design, names) {
-        Ok(read) => Ok(read),
+    match circuit_of(alloc, &design, names) {
+        Ok((circuit, labels)) => within(circuit, labels),
         Err(FormFault::Form) => Err(Stop::Refused(Refusal::Netlist(NetlistFault::Form))),
         Err(FormFault::Memory) => Err(Stop::Memory),
+    }
+}
+
+// The circuit and its labels, unless a size passes its limit.
+fn within(circuit: Circuit, labels: Labels) -> Result<(Circuit, Labels), Stop>
+    ensures read { IfOk result (λ read. (read.0 ≡ circuit) × (read.1 ≡ labels)
+        × (size_passed (length circuit.next.items) circuit.inputs ≡ None)) }
+    ensures stops { IfErr result (λ stop. IsSizeStop (size_passed (length circuit.next.items) circuit.inputs) stop) }
+{
+    match size_passed(&circuit) {
+        Some(what) => Err(Stop::Refused(Refusal::Limit(what))),
+        None => Ok((circuit, labels)),
+    }
+}
+
+// The first size that passes its limit.
+fn size_passed(circuit: &Circuit) -> Option<Size>
+    ensures { result ≡ size_passed (length circuit.now.next.items) circuit.now.inputs }
+{
+    if circuit.next.len() as u64 > Size::Registers.limit() {
+        Some(Size::Registers)
+    } else if circuit.inputs as u64 > Size::Inputs.limit() {
+        Some(Size::Inputs)
+    } else {
+        None
     }
 }
 

@@ -72,7 +72,7 @@ fn print<S: Sink>(alloc: Global, answer: &Answer, out: &mut S) -> Status
         (S.taken out.old) (S.taken out.new) }
 {
     match answer.line(alloc) {
-        Ok(line) => put(answer.status(), line.as_bytes(), out),
+        Ok(line) => put(answer.status(), &line, out),
         Err(_) => Status::Memory,
     }
 }

@@ -1,6 +1,22 @@
-ghost use Rattle.std.specs.Prelude.{◌≡◌, ◌≢◌, ◌<◌, ◌↔◌, IsTrue, IfNone, IfSome, Some, length, slice_get};
-ghost use Rattle.bm_cli.specs.Asked.{command_of, given_inputs, names_of, request_of};
-ghost use Rattle.bm_cli.specs.TopNames.{TopNames};
+ghost use Rattle.std.specs.Prelude.{
+  ◌≡◌,
+  ◌≢◌,
+  ◌<◌,
+  ◌↔◌,
+  ◌++◌,
+  ℕ,
+  IsTrue,
+  IfNone,
+  IfSome,
+  List,
+  Option,
+  Some,
+  length,
+  option_copied,
+  slice_get,
+};
+ghost use Rattle.bm_cli.specs.Asked.{command_of, given_inputs, request_of};
+ghost use Rattle.first_form.specs.TopNames.{TopNames, names_of};
 ghost use Rattle.bm_cli.specs.Words.{
   AskNothing,
   Asks,
@@ -16,16 +32,11 @@ ghost use Rattle.bm_cli.specs.Words.{
   check,
   minimise,
   options,
+  scope_option,
   texts,
 };
 
-/// The names of the top module, its clock and its checker.
-#[derive(Clone, Copy)]
-pub struct Names<'a> {
-    pub top: &'a str,
-    pub clock: &'a str,
-    pub check: &'a str,
-}
+use first_form::Names;
 
 /// What a command reads: the files of its netlist and its waveform, and the names that it is given.
 #[derive(Clone, Copy)]
@@ -33,6 +44,8 @@ pub struct Inputs<'a> {
     pub netlist: &'a str,
     pub waveform: &'a str,
     pub names: Names<'a>,
+    /// The scope of the waveform, its names joined by dots.
+    pub scope: Option<&'a str>,
 }
 
 /// What `minimise` is asked for.
@@ -78,15 +91,16 @@ fn read_minimise<'a>(words: &'a [String]) -> Option<Minimise<'a>>
     ensures form { IfSome result (λ found. HasForm (texts words.now) (minimise (request_of found))) }
     ensures refused { IfNone result ((request : Request) → HasForm (texts words.now) (minimise request) → ⊥) }
 {
-    if words.len() != 11 || !is_word(words, 1, "minimise") {
+    if words.len() < 5 || !is_word(words, 1, "minimise") {
         return None;
     }
-    match read_options(&words[5..]) {
-        Some(names) => Some(Minimise {
+    match read_given(&words[5..]) {
+        Some((names, scope)) => Some(Minimise {
             inputs: Inputs {
                 netlist: word(words, 2),
                 waveform: word(words, 3),
                 names,
+                scope,
             },
             out: word(words, 4),
         }),
@@ -98,15 +112,38 @@ fn read_check<'a>(words: &'a [String]) -> Option<Inputs<'a>>
     ensures form { IfSome result (λ found. HasForm (texts words.now) (check (given_inputs found))) }
     ensures refused { IfNone result ((inputs : InputNames) → HasForm (texts words.now) (check inputs) → ⊥) }
 {
-    if words.len() != 10 || !is_word(words, 1, "check") {
+    if words.len() < 4 || !is_word(words, 1, "check") {
         return None;
     }
-    match read_options(&words[4..]) {
-        Some(names) => Some(Inputs {
+    match read_given(&words[4..]) {
+        Some((names, scope)) => Some(Inputs {
             netlist: word(words, 2),
             waveform: word(words, 3),
             names,
+            scope,
         }),
+        None => None,
+    }
+}
+
+// The names, and the scope if there is one.
+fn read_given<'a>(words: &'a [String]) -> Option<(Names<'a>, Option<&'a str>)>
+    ensures read { IfSome result (λ found. texts words.now
+        ≡ options (names_of found.0) ++ scope_option (option_copied found.1)) }
+    ensures refused { IfNone result ((names : TopNames) (scope : Option (List ℕ))
+        → texts words.now ≢ options names ++ scope_option scope) }
+{
+    if words.len() == 6 {
+        return match read_options(words) {
+            Some(names) => Some((names, None)),
+            None => None,
+        };
+    }
+    if words.len() != 8 || !is_word(words, 6, "--scope") {
+        return None;
+    }
+    match read_options(&words[..6]) {
+        Some(names) => Some((names, Some(word(words, 7)))),
         None => None,
     }
 }
@@ -160,6 +197,7 @@ fn has_fit_names(found: &Inputs) -> bool
         && is_file_name(found.waveform)
         && found.netlist != found.waveform
         && are_names(names.top, names.clock, names.check)
+        && is_fit_scope(found.scope)
 }
 
 fn has_fit_out(found: &Minimise) -> bool
@@ -173,6 +211,15 @@ fn are_names(a: &str, b: &str, c: &str) -> bool
     ensures { IsTrue result ↔ (IsName a.now × IsName b.now × IsName c.now) }
 {
     !a.is_empty() && !b.is_empty() && !c.is_empty()
+}
+
+fn is_fit_scope(scope: Option<&str>) -> bool
+    ensures { IsTrue result ↔ IfSome (option_copied scope.entry) IsName }
+{
+    match scope {
+        Some(scope) => !scope.is_empty(),
+        None => true,
+    }
 }
 
 fn is_file_name(name: &str) -> bool

@@ -9,8 +9,8 @@ use Rattle.bm_cli.specs.declared.answer.Answer.TheVariants.{Accepted as Judged, 
 use Rattle.bm_cli.specs.declared.answer.Refusal.{Refusal}
 use Rattle.bm_cli.specs.declared.answer.Refusal.TheVariants.{Cut, NotFirstAtLast}
 
--- On what a shelf holds, which stays as it is: NETLIST or TRACE is refused, or the trace does not violate first at its last
--- cycle, or a cycle can go and this is the first, or the trace is accepted with these numbers.
+-- On what a shelf holds, which stays as it is: NETLIST or TRACE is refused, or the trace does not violate first at its
+-- last cycle, or a cycle can go and this is the first, or the trace is accepted with these numbers.
 pub data Checks (inputs : Inputs) (held : Held) : Answer → Held → Type 0 where
   refused : (why : Refusal) → RefusesFiles inputs held why → Checks inputs held (Refused why) held
   not_first : HasNotFirst inputs held → Checks inputs held (Refused NotFirstAtLast) held

@@ -9,8 +9,8 @@ use Rattle.bm_cli.specs.declared.answer.Refusal.{Refusal}
 use Rattle.bm_cli.specs.declared.answer.Refusal.TheVariants.{NoViolation}
 use Rattle.bm_cli.specs.declared.answer.Summary.{Summary}
 
--- On what a shelf holds: NETLIST or STIM is refused, or no cycle violates, and the shelf stays as it is; or OUT then holds
--- the text that is made of them.
+-- On what a shelf holds: NETLIST or STIM is refused, or no cycle violates, and the shelf stays as it is; or OUT then
+-- holds the text that is made of them.
 pub data Minimises (request : Request) (held : Held) : Answer → Held → Type 0 where
   refused : (why : Refusal) → RefusesFiles request.inputs held why → Minimises request held (Refused why) held
   no_violation : HasNoViolation request.inputs held → Minimises request held (Refused NoViolation) held

@@ -1,8 +1,8 @@
 //! The work of `check`.
 ghost use Rattle.std.specs.Prelude.{◌≡◌, ◌<◌, ◌↔◌, IfErr, IfOk, IsTrue, length};
 ghost use Rattle.bm_cli.specs.Asked.{given_inputs};
-ghost use Rattle.bm_cli.specs.Circuit.{IsInOrder};
-ghost use Rattle.bm_cli.specs.Deletion.{EndsBad};
+ghost use Rattle.first_form.specs.Circuit.{IsInOrder};
+ghost use Rattle.first_form.specs.Deletion.{EndsBad};
 ghost use Rattle.bm_cli.specs.Judgement.{IsJudged};
 ghost use Rattle.bm_cli.specs.Commands.{reads_of, writes_of};
 ghost use Rattle.bm_cli.specs.Ends.{Gives, Stops, counted};
@@ -13,11 +13,9 @@ ghost use Rattle.bm_cli.specs.declared.answer.Answer.TheVariants.{Accepted as Ju
 use crate::answer::{Accepted, Refusal, Stop};
 use crate::count::events;
 use crate::inputs::read_inputs;
-use crate::netlist::circuit::Circuit;
-use crate::netlist::deletion::first_cut;
-use crate::netlist::simulation::first_violation;
 use crate::words::Inputs;
 use bm_base::{NoMemory, Shelf};
+use first_form::{Circuit, first_cut, first_violation};
 use std::alloc::Global;
 use trace_rows::{Labels, Trace};
 
@@ -30,8 +28,8 @@ pub fn check<F: Shelf>(alloc: Global, asked: &Inputs, shelf: &mut F) -> Result<A
     ensures reads { OthersStay (reads_of (check (given_inputs asked.now))) (F.reads shelf.old) (F.reads shelf.new) }
     ensures writes { OthersStay (writes_of (check (given_inputs asked.now))) (F.writes shelf.old) (F.writes shelf.new) }
 {
-    let (circuit, labels, trace) = read_inputs(alloc, asked, shelf)?;
-    judge(alloc, &circuit, &labels, &trace)
+    let input = read_inputs(alloc, asked, shelf)?;
+    judge(alloc, &input.circuit, &input.labels, &input.trace)
 }
 
 // Whether the trace violates first at its last cycle with no cycle to spare. The least reason against it is given.

@@ -1,28 +1,19 @@
 ghost use Rattle.std.specs.Prelude.{◌≡◌, IfOk};
 ghost use Rattle.std.specs.String.{string_bytes};
-ghost use Rattle.bm_cli.specs.Answer.{fault_line};
+ghost use Rattle.bm_cli.specs.Answer.{fault_line, lex_line, parse_line};
 
+use crate::placed::placed_line;
 use std::alloc::{AllocError, Global};
+use vlog_lexer::LexFault;
+use vlog_parse::ParseFault;
 
-/// Why a netlist is refused: the first of these that applies. Each place is a byte offset.
-#[derive(Clone, Copy, Debug, PartialEq, Eq)]
+/// Why a netlist is refused: the first of these that applies.
+#[derive(Debug, Drop)]
 pub enum NetlistFault {
-    /// No token starts with this byte.
-    BadByte { at: u64 },
-    /// A comment has no end.
-    OpenComment { at: u64 },
-    /// A string has no end on its line.
-    OpenString { at: u64 },
-    /// A directive is none of those that are passed over.
-    Directive { at: u64 },
-    /// A reserved word is outside the grammar.
-    Outside { at: u64 },
-    /// A number breaks a rule of numbers.
-    Number { at: u64 },
-    /// Parts nest too deep.
-    TooDeep { at: u64 },
-    /// A token does not fit, or one is missing at the end.
-    Syntax { at: u64 },
+    /// The bytes have no tokens.
+    Lex(LexFault),
+    /// The tokens give no design.
+    Parse(ParseFault),
     /// The design is not of the first form.
     Form,
 }
@@ -33,15 +24,33 @@ impl NetlistFault {
         ensures { IfOk result (λ line. string_bytes line ≡ fault_line self.now) }
     {
         match self {
-            NetlistFault::BadByte { at } => format!(in alloc; "netlist refused: L1 at {at}\n"),
-            NetlistFault::OpenComment { at } => format!(in alloc; "netlist refused: L2 at {at}\n"),
-            NetlistFault::OpenString { at } => format!(in alloc; "netlist refused: L3 at {at}\n"),
-            NetlistFault::Directive { at } => format!(in alloc; "netlist refused: L4 at {at}\n"),
-            NetlistFault::Outside { at } => format!(in alloc; "netlist refused: P1 at {at}\n"),
-            NetlistFault::Number { at } => format!(in alloc; "netlist refused: P2 at {at}\n"),
-            NetlistFault::TooDeep { at } => format!(in alloc; "netlist refused: P3 at {at}\n"),
-            NetlistFault::Syntax { at } => format!(in alloc; "netlist refused: P4 at {at}\n"),
+            NetlistFault::Lex(fault) => lex_line(alloc, *fault),
+            NetlistFault::Parse(fault) => parse_line(alloc, *fault),
             NetlistFault::Form => String::from_str(alloc, "netlist refused: form\n"),
         }
+    }
+}
+
+fn lex_line(alloc: Global, fault: LexFault) -> Result<String, AllocError>
+    ensures { IfOk result (λ line. string_bytes line ≡ lex_line fault) }
+{
+    match fault {
+        LexFault::BadByte { at } => placed_line(alloc, "netlist", "L1", at),
+        LexFault::OpenComment { at } => placed_line(alloc, "netlist", "L2", at),
+        LexFault::OpenString { at } => placed_line(alloc, "netlist", "L3", at),
+        LexFault::Directive { at } => placed_line(alloc, "netlist", "L4", at),
+        LexFault::Memory => String::from_str(alloc, ""),
+    }
+}
+
+fn parse_line(alloc: Global, fault: ParseFault) -> Result<String, AllocError>
+    ensures { IfOk result (λ line. string_bytes line ≡ parse_line fault) }
+{
+    match fault {
+        ParseFault::Outside { at } => placed_line(alloc, "netlist", "P1", at),
+        ParseFault::Number { at } => placed_line(alloc, "netlist", "P2", at),
+        ParseFault::TooDeep { at } => placed_line(alloc, "netlist", "P3", at),
+        ParseFault::Syntax { at } => placed_line(alloc, "netlist", "P4", at),
+        ParseFault::Memory => String::from_str(alloc, ""),
     }
 }

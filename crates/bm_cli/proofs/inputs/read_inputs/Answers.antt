@@ -1,15 +1,33 @@
-use Rattle.std.proofs.Common.{ap, Err}
+use Rattle.std.proofs.Common.{◌≡◌, length, subst}
+use Rattle.std.specs.Prelude.{option_copied}
 use Rattle.bm_cli.specs.Asked.{given_inputs}
-use Rattle.bm_cli.specs.Reading.{StopsAtFiles}
-use Rattle.bm_cli.proofs.ReadingLemmas.{if_passed_on, trace_stopped}
+use Rattle.bm_cli.specs.Reading.{ReadsWaveform, StopsAtFiles, StopsAtWaveform, reading_of}
+use Rattle.bm_cli.proofs.ReadingLemmas.{both_read, if_passed_on, trace_wide, waveform_stopped}
 use Rattle.bm_cli.proofs.inputs.read_inputs.Goals as goal
 
 pub returns-in_err-trace-clause-stops : goal.returns-in_err-trace-clause-stops
 returns-in_err-trace-clause-stops g c =
-    if_passed_on (StopsAtFiles (given_inputs c.args.asked.now) (g.F.Shelf.held c.args.shelf.now) (g.F.Shelf.reads c.args.shelf.now) (g.F.Shelf.reads c.read_trace.new.shelf))
+    let inputs = given_inputs c.args.asked.now in
+    if_passed_on (StopsAtFiles inputs (g.F.Shelf.held c.args.shelf.now) (g.F.Shelf.reads c.args.shelf.now) (g.F.Shelf.reads c.read_waveform.new.shelf))
     c.from_residual-in_err-trace.result c.in_err-trace.field-0.0 c.from_residual-in_err-trace.ensures.1
-    (trace_stopped (given_inputs c.args.asked.now) (g.F.Shelf.held c.args.shelf.now) (g.F.Shelf.held c.read_netlist.new.shelf)
-    (g.F.Shelf.reads c.args.shelf.now) (g.F.Shelf.reads c.read_netlist.new.shelf) (g.F.Shelf.reads c.read_trace.new.shelf)
+    (waveform_stopped inputs (g.F.Shelf.held c.args.shelf.now) (g.F.Shelf.held c.read_netlist.new.shelf)
+    (g.F.Shelf.reads c.args.shelf.now) (g.F.Shelf.reads c.read_netlist.new.shelf) (g.F.Shelf.reads c.read_waveform.new.shelf)
     c.in_ok-circuit.circuit c.in_ok-circuit.labels c.in_err-trace.field-0.0
     c.in_ok-circuit.ensures.read c.read_netlist.ensures.only_reads.held_stays c.read_netlist.ensures.only_reads.reads_rise
-    c.in_err-trace.ensures.stops (λ is words. c.in_err-trace.ensures.refused (ap Err is) words))
+    (subst (λ n. StopsAtWaveform c.in_ok-circuit.labels inputs.scope n (g.F.Shelf.held c.read_netlist.new.shelf) inputs.waveform
+    (g.F.Shelf.reads c.read_netlist.new.shelf) (g.F.Shelf.reads c.read_waveform.new.shelf) c.in_err-trace.field-0.0) c.register_count-registers.ensures c.in_err-trace.ensures.stops))
+
+pub returns-clause-read : goal.returns-clause-read
+returns-clause-read g c =
+    let inputs = given_inputs c.args.asked.now in
+    both_read inputs (g.F.Shelf.held c.args.shelf.now) (g.F.Shelf.held c.read_netlist.new.shelf) c.in_ok-circuit.circuit c.in_ok-circuit.labels
+    (record { trace = c.in_ok-trace.trace; unknown = c.in_ok-trace.unknown })
+    c.in_ok-circuit.ensures.read c.read_netlist.ensures.only_reads.held_stays
+    (subst (λ n. ReadsWaveform c.in_ok-circuit.labels inputs.scope n (g.F.Shelf.held c.read_netlist.new.shelf) inputs.waveform
+    (record { trace = c.in_ok-trace.trace; unknown = c.in_ok-trace.unknown })) c.register_count-registers.ensures c.in_ok-trace.ensures.read)
+    c.in_ok-trace.ensures.fits c.in_ok-circuit.ensures.ports.0 c.in_ok-circuit.ensures.ports.1 c.in_ok-trace.ensures.cycles
+
+pub returns-clause-width : goal.returns-clause-width
+returns-clause-width g c =
+    trace_wide c.in_ok-circuit.labels (record { trace = c.in_ok-trace.trace; unknown = c.in_ok-trace.unknown }) c.in_ok-circuit.circuit.inputs
+    c.in_ok-trace.ensures.fits c.in_ok-circuit.ensures.ports.0 c.in_ok-circuit.ensures.ports.1

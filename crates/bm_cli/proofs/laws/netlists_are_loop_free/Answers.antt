@@ -1,4 +1,4 @@
-use Rattle.bm_cli.proofs.LoopFree.{first_form_is_loop_free}
+use Rattle.first_form.proofs.LoopFree.{first_form_is_loop_free}
 use Rattle.bm_cli.proofs.laws.netlists_are_loop_free.Goals as goal
 
 pub returns : goal.returns

@@ -1,6 +1,6 @@
-use Rattle.bm_cli.specs.Asked.{names_of}
+use Rattle.first_form.specs.TopNames.{names_of}
 use Rattle.bm_cli.specs.Reading.{StopsFor}
-use Rattle.bm_cli.proofs.NetlistLemmas.{circuit_read}
+use Rattle.bm_cli.proofs.NetlistLemmas.{within_read, within_stopped}
 use Rattle.bm_cli.proofs.ReadingLemmas.{if_passed_on}
 use Rattle.bm_cli.proofs.netlist.read.Goals as goal
 
@@ -11,5 +11,10 @@ returns-in_err-design-clause-stops c =
 
 pub returns-in-Ok-clause-read : goal.returns-in-Ok-clause-read
 returns-in-Ok-clause-read c =
-    circuit_read (names_of c.args.names.now) c.args.bytes.now c.in_ok-design.design c.in-Ok.read.0 c.in-Ok.read.1 c.in_ok-design.ensures.spelled
-    c.in-Ok.ensures.form c.in-Ok.ensures.circuit c.in-Ok.ensures.wired c.in-Ok.ensures.labels
+    within_read (names_of c.args.names.now) c.args.bytes.now c.in_ok-design.design c.in-Ok.circuit c.in-Ok.labels c.within.result c.in_ok-design.ensures.spelled
+    c.in-Ok.ensures.form c.in-Ok.ensures.circuit c.in-Ok.ensures.wired c.in-Ok.ensures.labels c.within.ensures.read
+
+pub returns-in-Ok-clause-stops : goal.returns-in-Ok-clause-stops
+returns-in-Ok-clause-stops c =
+    within_stopped (names_of c.args.names.now) c.args.bytes.now c.in_ok-design.design c.in-Ok.circuit c.within.result c.in_ok-design.ensures.spelled
+    c.in-Ok.ensures.form c.in-Ok.ensures.circuit c.in-Ok.ensures.wired c.within.ensures.stops

@@ -1,14 +1,13 @@
-use Rattle.std.proofs.Common.{◌≡◌, drop, refl, sym, ap, ◌∙◌}
+use Rattle.std.proofs.Common.{refl, sym, ap, ◌∙◌}
 use Rattle.std.proofs.lemmas.List.{drop-map, take_rest}
 use Rattle.std.specs.String.{string_bytes}
-use Rattle.bm_cli.specs.Asked.{names_of}
-use Rattle.bm_cli.specs.Words.{options, texts}
+use Rattle.bm_cli.specs.Words.{texts}
 use Rattle.bm_cli.proofs.WordLemmas.{five_words}
 use Rattle.bm_cli.proofs.words.read_minimise.Goals as goal
 
 pub returns-in-Some-clause-form : goal.returns-in-Some-clause-form
 returns-in-Some-clause-form c =
     let words = c.args.words.now in
-    let rest : drop 5 (texts words) ≡ options (names_of c.in-Some.names)
-    = drop-map string_bytes 5 words ∙ ap texts (sym (take_rest words 5)) ∙ c.in-Some.ensures.read in
-    five_words _ _ _ _ _ _ (c.if-not-is_word.ensures.0 refl) c.word.ensures c.word-in-Some.ensures c.word-in-Some-2.ensures rest
+    five_words _ _ _ _ _ _
+    (c.if-not-is_word.ensures.0 refl) c.word.ensures c.word-in-Some.ensures c.word-in-Some-2.ensures
+    (drop-map string_bytes 5 words ∙ ap texts (sym (take_rest words 5)) ∙ c.in-Some.ensures.read)
