@@ -36,8 +36,8 @@ impl Answer {
         self.says.as_str() == other.says.as_str() && self.files.same(&other.files)
     }
 
-    /// Adds what it says, each line with this label before it, and each file that is another than in `before`: its text,
-    /// or that it is the same as in `last`.
+    /// Adds what it says, each line with this label before it, and each file that is another than in `before`: its
+    /// text, or that it is the same as in `last`.
     pub fn put(
         &self,
         page: &mut String,

@@ -21,9 +21,9 @@ struct Decoder {
     state: State,
 }
 
-/// The bytes that a text stands for: `\\` is a backslash, `\n`, `\r`, `\t` and `\s` are a newline, a carriage return, a tab
-/// and a space, `\x0c` is the byte of this hexadecimal number, `\}` is a brace that ends nothing, and `\501{..}` is what
-/// stands between the braces, so many times.
+/// The bytes that a text stands for: `\\` is a backslash, `\n`, `\r`, `\t` and `\s` are a newline, a carriage return, a
+/// tab and a space, `\x0c` is the byte of this hexadecimal number, `\}` is a brace that ends nothing, and `\501{..}` is
+/// what stands between the braces, so many times.
 pub fn decoded(alloc: Global, text: &str) -> Result<Vec<u8>, Trouble> {
     let mut decoder = Decoder {
         made: Vec::new(alloc),

@@ -10,8 +10,8 @@ struct Variable {
     bits: Vec<u8>,
 }
 
-/// The text of a waveform of the module `top` with the clock `clk`. Each row is a name and its bits, as `1 0 01*3`. The row
-/// `bad` has the checker's bits, and the others are ports in their order.
+/// The text of a waveform of the module `top` with the clock `clk`. Each row is a name and its bits, as `1 0 01*3`. The
+/// row `bad` has the checker's bits, and the others are ports in their order.
 pub fn waveform(alloc: Global, cycles: usize, rows: &[String]) -> Result<String, Trouble> {
     let variables = read_variables(alloc, cycles, rows)?;
     let mut text = String::new(alloc);

@@ -1,5 +1,6 @@
 mod bits;
 mod counts;
+mod readings;
 mod shelves;
 mod sinks;
 mod statuses;

@@ -128,7 +128,7 @@ fn writes_ranges_and_names(rt: HostRuntime) -> Result<(), Fail> {
     let labels = labels(alloc, b"module", ports)?;
     let mut row = bits(
         alloc,
-        &[true, false, false, false, false, false, false, false, false],
+        &[true, false, true, false, false, false, false, false, false],
     )?;
     let mut t = Trace::new(alloc, 9);
     t.push(&row)?;
@@ -152,7 +152,7 @@ $enddefinitions $end
 $dumpvars
 0!
 1\"
-b00000001 #
+b00000101 #
 0$
 $end
 #5
@@ -165,7 +165,7 @@ $end
 #20
 0!
 0\"
-b10000000 #
+b10000100 #
 ";
     assert_eq!(rt; text.as_slice(), want.as_bytes());
     Ok(())
