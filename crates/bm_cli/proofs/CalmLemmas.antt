@@ -8,11 +8,12 @@ use Rattle.bm_base.specs.Held.{Held}
 use Rattle.bm_base.specs.declared.status.Status.{Status}
 use Rattle.bm_base.specs.declared.status.Status.TheVariants as status
 use Rattle.bm_cli.specs.Answer.{words_line}
-use Rattle.bm_cli.specs.Commands.{reads_of, writes_of}
+use Rattle.bm_cli.specs.Commands.{writes_of}
 use Rattle.bm_cli.specs.Keeps.{Keeps, RefusesWords, is_fault}
 use Rattle.bm_cli.specs.Outside.{Outside, SomeRose, outside}
 use Rattle.bm_cli.specs.Prints.{Prints}
-use Rattle.bm_cli.specs.Words.{AskNothing, Asks, Command}
+use Rattle.bm_cli.specs.Verdict.{FailsReading}
+use Rattle.bm_cli.specs.Words.{AskNothing, Asks, Command, Inputs, inputs_of}
 
 nothing_counted : (name : List ℕ) → count_of empty name ≡ 0
 nothing_counted name = ap (λ found. unwrap_or found 0) (get-empty (slice_cmp nat_cmp) name)
@@ -21,6 +22,10 @@ none_rose : (names : List (List ℕ)) → SomeRose names empty empty → ⊥
 none_rose [] rose = rose
 none_rose (name ∷ names) (inl rose) = omega (arith, nothing_counted name, rose)
 none_rose (name ∷ names) (inr rose) = none_rose names rose
+
+none_failed : (inputs : Inputs) (held : Option Held) → FailsReading inputs held empty empty → ⊥
+none_failed inputs held (inl rose) = none_rose (inputs.netlist ∷ []) (inl rose)
+none_failed inputs held (inr (rose, told)) = none_rose (inputs.waveform ∷ []) (inl rose)
 
 no_fault_at_0 : Rose 0 0 → ⊥
 no_fault_at_0 rose = omega (arith, rose)
@@ -33,7 +38,7 @@ module _ (words : List (List ℕ)) (held held_now : Option Held) (taken taken_no
     (refuses : AskNothing words → RefusesWords (calm held taken) result (calm held_now taken_now))
     (keeps : (command : Command) → Asks words command → Keeps command (calm held taken) result (calm held_now taken_now)) where
   pub no_read_fault : result ≡ status.ReadFault → ⊥
-  no_read_fault five = by (refuses (λ command asks. none_rose (reads_of command) ((keeps command asks).unread five).0.rose)).prints
+  no_read_fault five = by (refuses (λ command asks. none_failed (inputs_of command) held ((keeps command asks).unread five).0.rose)).prints
     where
       by : Prints status.Words words_line result (Rose 0 0) taken taken_now → ⊥
       by (inl (is, line)) = let same : status.Words ≡ status.ReadFault = sym is ∙ five in cc

@@ -20,7 +20,7 @@ use Rattle.bm_cli.specs.Input.{IsTooLarge, IsWaveform, IsWaveformFault, design_l
 use Rattle.bm_cli.specs.Commands.{files_of}
 use Rattle.bm_cli.specs.Outside.{OthersStay}
 use Rattle.bm_cli.specs.Reading.{ReadsInputs, ReadsNetlist, ReadsWaveform, StopsAtFiles, StopsAtNetlist, StopsAtWaveform}
-use Rattle.bm_cli.specs.Verdict.{HasInput, RefusesFiles}
+use Rattle.bm_cli.specs.Verdict.{HasInput, HasNetlist, RefusesFiles}
 use Rattle.bm_cli.specs.Words.{Inputs}
 use Rattle.bm_cli.specs.declared.answer.Refusal.TheVariants.{NoViolation, NotFirstAtLast, Cut, Netlist, Limit, Waveform}
 use Rattle.bm_cli.specs.declared.answer.Stop.{Stop}
@@ -72,6 +72,11 @@ long_told : (inputs : Inputs) (held : Option Held) (circuit : Circuit) (labels :
 long_told inputs None circuit labels what read long = tt
 long_told inputs (Some held) circuit labels what read (is, long) = inr (is, (read.design, read.told, long))
 
+netlist_told : (inputs : Inputs) (held : Option Held) (circuit : Circuit) (labels : Labels) → ReadsNetlist inputs.names held inputs.netlist circuit labels
+    → IfSome held (λ held. (design : Design) × HasNetlist inputs held design)
+netlist_told inputs None circuit labels read = tt
+netlist_told inputs (Some held) circuit labels read = (read.design, read.told)
+
 -- NETLIST was read, and the waveform was not.
 pub waveform_stopped : (inputs : Inputs) (held mid : Option Held) (reads reads_mid reads_now : FaultCounts) (circuit : Circuit) (labels : Labels) (stop : Stop)
     → ReadsNetlist inputs.names held inputs.netlist circuit labels → mid ≡ held → RisesOnlyAt inputs.netlist reads reads_mid
@@ -83,9 +88,11 @@ waveform_stopped inputs held mid reads reads_mid reads_now circuit labels (Refus
 waveform_stopped inputs held mid reads reads_mid reads_now circuit labels (Refused (Limit what)) read same rises stops =
     long_told inputs held circuit labels what read
     (subst (λ h. IfSome h (λ held. (what ≡ size.Waveform) × (limit_of size.Waveform < length (bytes_under held inputs.waveform)))) same stops)
-waveform_stopped inputs held mid reads reads_mid reads_now circuit labels ReadFault read same rises stops =
-    inr (inl (Rose_later (count_of reads inputs.waveform) (count_of reads_mid inputs.waveform) (count_of reads_now inputs.waveform)
-    (grows inputs.netlist reads reads_mid rises inputs.waveform) stops))
+waveform_stopped inputs held mid reads reads_mid reads_now circuit labels ReadFault read same rises stops = inr (
+  Rose_later (count_of reads inputs.waveform) (count_of reads_mid inputs.waveform) (count_of reads_now inputs.waveform)
+      (grows inputs.netlist reads reads_mid rises inputs.waveform) stops,
+  netlist_told inputs held circuit labels read,
+)
 waveform_stopped inputs held mid reads reads_mid reads_now circuit labels Memory read same rises stops = tt
 waveform_stopped inputs held mid reads reads_mid reads_now circuit labels WriteFault read same rises stops = absurd stops
 waveform_stopped inputs held mid reads reads_mid reads_now circuit labels (Refused (Netlist why)) read same rises stops = absurd stops

@@ -21,5 +21,6 @@ written_by request = record {
 -- output's name.
 abbrev pub IsAcceptedAgain : Type 0
 IsAcceptedAgain = (words : List (List ℕ)) (request : Request) (held : Held) (text : List ℕ) (summary : Summary)
-    → Asks words (minimise request) → HasMinimised request.inputs held text summary → length text ≤ limit_of size.Waveform
+    → Asks words (minimise request) → HasMinimised request.inputs held text summary
+    → length text ≤ limit_of size.Waveform
     → (numbers : Accepted) × HasCounted (written_by request) (holding request.out text held) numbers

@@ -2,9 +2,10 @@
 use Rattle.std.specs.Prelude.{◌≡◌, ◌⊎◌, ℕ, List, [], ◌∷◌, Option, Result, Ok, Err, take}
 use Rattle.bm_base.specs.Counts.{FaultCounts}
 use Rattle.bm_base.specs.Held.{Held, bytes_under, holding}
-use Rattle.bm_cli.specs.Commands.{Answers, reads_of, writes_of}
+use Rattle.bm_cli.specs.Commands.{Answers, writes_of}
 use Rattle.bm_cli.specs.Outside.{SomeRose, Tells}
-use Rattle.bm_cli.specs.Words.{Command}
+use Rattle.bm_cli.specs.Verdict.{FailsReading}
+use Rattle.bm_cli.specs.Words.{Command, inputs_of}
 use Rattle.bm_cli.specs.declared.answer.Answer.{Answer}
 use Rattle.bm_cli.specs.declared.answer.Answer.TheVariants.{Refused as Refusing}
 use Rattle.bm_cli.specs.declared.answer.Stop.{Stop}
@@ -43,7 +44,8 @@ Gives command held now answer = Tells (λ held now. Answers command held answer 
 -- It stops: with a refusal that is its answer, for a fault that the counts show, or for want of memory.
 abbrev pub Stops : Command → Option Held → Option Held → CallCounts → Stop → Type 0
 Stops command held now counts (Refused refusal) = Gives command held now (Refusing refusal)
-Stops command held now counts ReadFault = SomeRose (reads_of command) counts.reads counts.reads_now × (now ≡ held)
+Stops command held now counts ReadFault =
+    FailsReading (inputs_of command) held counts.reads counts.reads_now × (now ≡ held)
 Stops command held now counts WriteFault =
     SomeRose (writes_of command) counts.writes counts.writes_now × Tells (IsOnTheWay command) held now
 Stops command held now counts Memory = Tells (IsOnTheWay command) held now

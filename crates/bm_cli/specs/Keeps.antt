@@ -9,7 +9,8 @@ use Rattle.bm_cli.specs.Commands.{Answers, reads_of, writes_of}
 use Rattle.bm_cli.specs.Ends.{Gives, IsOnTheWay}
 use Rattle.bm_cli.specs.Outside.{OthersStay, Outside, SomeRose, Tells}
 use Rattle.bm_cli.specs.Prints.{GainsLine, GainsPart, Prints}
-use Rattle.bm_cli.specs.Words.{Command}
+use Rattle.bm_cli.specs.Verdict.{FailsReading}
+use Rattle.bm_cli.specs.Words.{Command, inputs_of}
 use Rattle.bm_cli.specs.declared.answer.Answer.{Answer}
 
 -- whether the status is no answer's: 5, 6 and 8
@@ -26,9 +27,9 @@ pub record IsAnswered (command : Command) (before : Outside) (result : Status) (
   pub line : GainsLine (line_of answer) before.taken after.taken
   pub holds : Gives command before.held after.held answer
 
--- A file that is read failed; all files are as they were.
+-- A file could not be read, in the order in which they are; all files are as they were.
 pub record IsUnread (command : Command) (before after : Outside) : Type 0 where
-  pub rose : SomeRose (reads_of command) before.reads after.reads
+  pub rose : FailsReading (inputs_of command) before.held before.reads after.reads
   pub holds : after.held ≡ before.held
 
 -- A file that is written failed: it is as it was or has a prefix of its text, those before it are whole, those after it

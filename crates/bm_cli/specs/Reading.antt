@@ -18,9 +18,7 @@ use Rattle.first_form.specs.Means.{IsMachine, machine_of}
 use Rattle.bm_cli.specs.NetlistFaults.{IsNetlistFault, IsReason}
 use Rattle.first_form.specs.TopNames.{TopNames}
 use Rattle.first_form.specs.FirstForm.{IsFirstForm}
-use Rattle.bm_cli.specs.Commands.{files_of}
-use Rattle.bm_cli.specs.Outside.{SomeRose}
-use Rattle.bm_cli.specs.Verdict.{RefusesFiles}
+use Rattle.bm_cli.specs.Verdict.{FailsReading, RefusesFiles}
 use Rattle.bm_cli.specs.Words.{Inputs}
 use Rattle.bm_cli.specs.declared.answer.Refusal.TheVariants.{Netlist, Limit, Waveform}
 use Rattle.bm_cli.specs.declared.answer.Stop.{Stop}
@@ -56,8 +54,8 @@ abbrev pub IsSizeStop : Option Size → Stop → Type 0
 IsSizeStop None stop = ⊥
 IsSizeStop (Some what) stop = stop ≡ Refused (Limit what)
 
--- The bytes give no circuit only for a reason that applies to them, for a limit that the machine passes, and for want of
--- memory.
+-- The bytes give no circuit only for a reason that applies to them, for a limit that the machine passes, and for want
+-- of memory.
 abbrev pub StopsFor : TopNames → List ℕ → Stop → Type 0
 StopsFor names bytes (Refused (Netlist why)) = IsReason names bytes why
 StopsFor names bytes (Refused (Limit what)) = (design : Design) × SpellsNetlist names bytes design
@@ -122,6 +120,6 @@ pub record ReadsInputs (inputs : Inputs) (held : Option Held) (circuit : Circuit
 -- Why the reading of both files stopped: they are refused, a fault whose count has risen, or want of memory.
 abbrev pub StopsAtFiles : Inputs → Option Held → FaultCounts → FaultCounts → Stop → Type 0
 StopsAtFiles inputs held reads reads_now (Refused why) = IfSome held (λ held. RefusesFiles inputs held why)
-StopsAtFiles inputs held reads reads_now ReadFault = SomeRose (files_of inputs) reads reads_now
+StopsAtFiles inputs held reads reads_now ReadFault = FailsReading inputs held reads reads_now
 StopsAtFiles inputs held reads reads_now WriteFault = ⊥
 StopsAtFiles inputs held reads reads_now Memory = Unit {0}

@@ -1,5 +1,6 @@
 -- What NETLIST and STIM or TRACE are, by the bytes that a shelf holds under their names.
-use Rattle.std.specs.Prelude.{◌≡◌, ◌⊎◌, ◌<◌, ℕ, List, length}
+use Rattle.std.specs.Prelude.{◌≡◌, ◌⊎◌, ◌<◌, ℕ, List, Option, IfSome, length}
+use Rattle.bm_base.specs.Counts.{FaultCounts, Rose, count_of}
 use Rattle.bm_base.specs.Held.{Held, bytes_under}
 use Rattle.bm_base.specs.Size.{limit_of}
 use Rattle.bm_base.specs.declared.size.Size.{Size}
@@ -35,6 +36,13 @@ HasWaveform inputs held design reading = IsWaveform (design_labels inputs.names 
 -- NETLIST is refused for this reason.
 abbrev pub HasNetlistFault : Inputs → Held → NetlistFault → Type 0
 HasNetlistFault inputs held why = IsNetlistFault inputs.names (bytes_under held inputs.netlist) why
+
+-- A file could not be read: NETLIST, or the waveform of one that is a netlist.
+abbrev pub FailsReading : Inputs → Option Held → FaultCounts → FaultCounts → Type 0
+FailsReading inputs held reads reads_now =
+    Rose (count_of reads inputs.netlist) (count_of reads_now inputs.netlist)
+    ⊎ (Rose (count_of reads inputs.waveform) (count_of reads_now inputs.waveform)
+    × IfSome held (λ held. (design : Design) × HasNetlist inputs held design))
 
 -- NETLIST passes this limit.
 abbrev pub HasLargeNetlist : Inputs → Held → Size → Type 0
