@@ -6,6 +6,7 @@ use crate::disk::on_disk;
 use crate::escape::decoded;
 use crate::files::Files;
 use crate::memory::in_memory;
+use crate::rows::said_of_rows;
 use crate::stage::Stage;
 use crate::tokens::said_of_tokens;
 use crate::tree::{said_of_design, said_of_scrap, said_of_tree};
@@ -91,6 +92,7 @@ fn says(alloc: Global, asked: &Asked, files: &Files) -> Result<String, Trouble> 
     match asked {
         Asked::Deed(_) => Err(Trouble::Command),
         Asked::Tree(name) => says_tree(alloc, files, name),
+        Asked::Rows(name, signals) => says_rows(alloc, files, name, signals),
         Asked::Tokens(text) => says_tokens(alloc, text),
         Asked::Design(text) => says_design(alloc, text),
         Asked::Scrap(scrap, text) => says_scrap(alloc, *scrap, text),
@@ -100,6 +102,11 @@ fn says(alloc: Global, asked: &Asked, files: &Files) -> Result<String, Trouble> 
 fn says_tree(alloc: Global, files: &Files, name: &str) -> Result<String, Trouble> {
     let source = files.get(name).ok_or(Trouble::File)?;
     Ok(said_of_tree(alloc, source)?)
+}
+
+fn says_rows(alloc: Global, files: &Files, name: &str, signals: &str) -> Result<String, Trouble> {
+    let source = files.get(name).ok_or(Trouble::File)?;
+    said_of_rows(alloc, source, signals)
 }
 
 fn says_tokens(alloc: Global, text: &str) -> Result<String, Trouble> {

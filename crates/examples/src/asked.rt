@@ -9,6 +9,8 @@ pub enum Asked {
     Deed(Deed),
     /// The tree of a file.
     Tree(String),
+    /// The rows of a file of this name, of these signals.
+    Rows(String, String),
     /// The tokens of a text.
     Tokens(String),
     /// Whether a text is a design.
@@ -26,7 +28,7 @@ impl Asked {
             Asked::Scrap(scrap, text) => {
                 Ok(Asked::Scrap(*scrap, text.replace(alloc, "WORD", word)?))
             }
-            Asked::Deed(_) | Asked::Tree(_) => Err(Trouble::Again),
+            Asked::Deed(_) | Asked::Tree(_) | Asked::Rows(..) => Err(Trouble::Again),
         }
     }
 }

@@ -70,12 +70,19 @@ fn read_asked(alloc: Global, verb: &str, rest: &str) -> Result<Asked, Trouble> {
         "slice" => Ok(Asked::Deed(read_slice(alloc, rest)?)),
         "append" => Ok(Asked::Deed(read_append(alloc, rest)?)),
         "tree" => Ok(Asked::Tree(text(alloc, rest)?)),
+        "rows" => read_rows(alloc, rest),
         "tokens" => Ok(Asked::Tokens(text(alloc, rest)?)),
         "design" => Ok(Asked::Design(text(alloc, rest)?)),
         "expression" => Ok(Asked::Scrap(Scrap::Expression, text(alloc, rest)?)),
         "number" => Ok(Asked::Scrap(Scrap::Number, text(alloc, rest)?)),
         _ => Err(Trouble::Command),
     }
+}
+
+// `top.vcd clk a data[7:0]`
+fn read_rows(alloc: Global, rest: &str) -> Result<Asked, Trouble> {
+    let (name, signals) = rest.split_once(' ').ok_or(Trouble::Words)?;
+    Ok(Asked::Rows(text(alloc, name)?, text(alloc, signals)?))
 }
 
 // `top.v 10 5`

@@ -15,6 +15,7 @@ mod disk;
 mod escape;
 mod files;
 mod memory;
+mod rows;
 mod shown;
 mod stage;
 mod tokens;
