@@ -1,8 +1,3 @@
-pub mod Keys
-pub mod Machine
-pub mod Names
-pub mod Run
+pub mod Meaning
 pub mod Spelling
-pub mod Step
-pub mod Value
-pub mod Violations
+pub mod WholeUses

@@ -1,5 +1,5 @@
 -- Gates and instances (IEEE 1364-2005, clauses 7 and 12.3).
-use Rattle.std.specs.Prelude.{◌≡◌, ℕ, Bool, true, false, List, [], ◌∷◌, ◌++◌, codes, Option, Some, None, if◌then◌else◌}
+use Rattle.std.specs.Prelude.{◌≡◌, ℕ, List, [], ◌∷◌, ◌++◌, codes, Option, Some, None, if◌then◌else◌}
 use Rattle.std.specs.Str.{bytes_eq}
 use Rattle.vlog_tokens.specs.Toks.{Tok}
 use Rattle.vlog_tree.specs.declared.expr.Expr.{Expr}

@@ -1,5 +1,5 @@
 -- Headers, modules and designs (IEEE 1364-2005, clauses 12.1 and 12.3).
-use Rattle.std.specs.Prelude.{◌≡◌, ℕ, List, [], ◌∷◌, ◌++◌, codes, map}
+use Rattle.std.specs.Prelude.{ℕ, List, [], ◌∷◌, ◌++◌, codes}
 use Rattle.std.specs.List.{flat_map}
 use Rattle.vlog_tokens.specs.Toks.{Tok}
 use Rattle.vlog_tree.specs.declared.design.Design.{Design}

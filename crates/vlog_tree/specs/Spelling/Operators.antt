@@ -1,5 +1,5 @@
 -- The operators (IEEE 1364-2005, clause 5.1).
-use Rattle.std.specs.Prelude.{ℕ, List, Option, Some, None, if◌then◌else◌, ◌||◌, ◌==◌, codes}
+use Rattle.std.specs.Prelude.{ℕ, List, Option, Some, None, if◌then◌else◌, ◌||◌, codes}
 use Rattle.std.specs.Str.{bytes_eq}
 use Rattle.vlog_tree.specs.declared.expr.BinOp.{BinOp}
 use Rattle.vlog_tree.specs.declared.expr.BinOp.TheVariants as binary

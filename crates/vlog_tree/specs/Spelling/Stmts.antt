@@ -1,7 +1,6 @@
 -- Statements (IEEE 1364-2005, clause 9).
 use Rattle.std.specs.Prelude.{◌≡◌, ℕ, zero, suc, Bool, true, false, List, [], ◌∷◌, ◌++◌, codes, Some, None}
 use Rattle.vlog_tokens.specs.Toks.{Tok}
-use Rattle.vlog_tokens.specs.declared.token.TokenKind.{TokenKind}
 use Rattle.vlog_tokens.specs.declared.token.TokenKind.TheVariants.{Based, Decimal}
 use Rattle.vlog_tree.specs.declared.expr.Expr.{Expr}
 use Rattle.vlog_tree.specs.declared.left.Left.{Left}

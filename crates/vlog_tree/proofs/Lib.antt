@@ -1,0 +1,4 @@
+pub mod Equations
+pub mod MeaningExamples
+pub mod RangeLemmas
+pub mod UseLemmas
