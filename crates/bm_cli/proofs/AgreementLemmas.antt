@@ -3,7 +3,7 @@ use Rattle.std.proofs.Common.{◌≡◌, ◌≢◌, ◌⊎◌, inl, inr, ℕ, �
 use Rattle.bm_base.specs.ByName.{get-insert_other}
 use Rattle.bm_base.specs.Held.{Held, bytes_under, holding}
 use Rattle.trace_rows.specs.declared.labels.Labels.{Labels}
-use Rattle.vlog_tree.specs.Machine.{Machine}
+use Rattle.trace_rows.specs.Machine.{Machine}
 use Rattle.bm_cli.specs.Agreement.{IsAcceptedAgain}
 use Rattle.bm_cli.specs.Counted.{accepted_of}
 use Rattle.bm_cli.specs.Input.{IsNetlist, IsWaveform, design_labels, register_count}

@@ -5,18 +5,19 @@ use Rattle.std.proofs.lemmas.List.{length-take, take_all}
 use Rattle.std.proofs.lemmas.Option.{none-some}
 use Rattle.std.proofs.lemmas.List.Quantifiers.{position-Some}
 use Rattle.vcd_laws.specs.Laws.{WrittenIsRead}
-use Rattle.vcd_laws.specs.Writable.{AreRowsOf, AreWritable}
+use Rattle.vcd_laws.specs.Laws.{AreRowsOf}
+use Rattle.trace_rows.specs.Writable.{AreWritable}
 use Rattle.vcd_reader.specs.Rows.{Reading}
 use Rattle.vcd_reader.specs.Waveform.{waveform}
 use Rattle.vcd_writer.specs.Waveform.{vcd}
 use Rattle.first_form.specs.Waveform.{AreScalars}
 use Rattle.bm_cli.proofs.Scalars.{row_width-scalars}
 use Rattle.trace_rows.specs.Cut.{cut}
-use Rattle.trace_rows.specs.CutLemmas.{All-cut}
+use Rattle.trace_rows.proofs.CutLemmas.{All-cut}
 use Rattle.trace_rows.specs.declared.labels.Labels.{Labels}
-use Rattle.vlog_tree.specs.Machine.{Machine}
-use Rattle.vlog_tree.specs.Run.{IsFirstAtLast, Violates, checks as checks_of}
-use Rattle.vlog_tree.specs.Violations.{checks_cut, first_violates, last_is_first, violates_entry}
+use Rattle.trace_rows.specs.Machine.{Machine}
+use Rattle.trace_rows.specs.Run.{IsFirstAtLast, Violates, checks as checks_of}
+use Rattle.trace_rows.proofs.ViolationLemmas.{checks_cut, first_violates, last_is_first, violates_entry}
 use Rattle.first_form.specs.Acceptance.{HasLeastCut, IsAccepted}
 use Rattle.first_form.specs.Deletion.{EndsBad, IsFirstCut, NoCut, cut_bad}
 use Rattle.first_form.specs.Means.{IsMachine}

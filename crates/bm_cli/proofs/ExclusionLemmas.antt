@@ -2,9 +2,9 @@
 use Rattle.std.proofs.Common.{◌≡◌, ◌⊎◌, inl, inr, ◌≤◌, ◌<◌, ℕ, List, Bool, Some, None, Result, Ok, Err, length, refl, subst, sym, ap, ◌∙◌, arith}
 use Rattle.bm_base.specs.Held.{Held, bytes_under}
 use Rattle.vlog_tree.specs.declared.design.Design.{Design}
-use Rattle.vlog_tree.specs.Run.{IsFirstAtLast, Violates}
+use Rattle.trace_rows.specs.Run.{IsFirstAtLast, Violates}
 use Rattle.vlog_tree.specs.Spelling.{IsOneDesign}
-use Rattle.first_form.specs.Deletion.{NoCutViolates}
+use Rattle.trace_rows.specs.Minimal.{NoCutViolates}
 use Rattle.bm_cli.specs.Answer.{refusal_status, status_of, waveform_status}
 use Rattle.bm_cli.specs.Commands.Check.{Checks}
 use Rattle.bm_cli.specs.Commands.Minimise.{Minimises}

@@ -6,7 +6,7 @@ use Rattle.std.specs.Result.{IfErr, IfOk}
 use Rattle.bm_base.specs.Counts.{FaultCounts, RisesOnlyAt, Rose, SameCounts, count_of}
 use Rattle.bm_base.specs.Held.{Held, holding}
 use Rattle.trace_rows.specs.declared.labels.Labels.{Labels}
-use Rattle.vlog_tree.specs.Run.{IsFirstAtLast, Violates}
+use Rattle.trace_rows.specs.Run.{IsFirstAtLast, Violates}
 use Rattle.first_form.specs.Acceptance.{HasLeastCut, IsAccepted}
 use Rattle.bm_cli.specs.Commands.Check.{Checks}
 use Rattle.bm_cli.specs.Commands.Minimise.{Minimises}
@@ -22,7 +22,7 @@ use Rattle.bm_cli.specs.Reading.{ReadsInputs, ReadsNetlist, StopsAtFiles}
 use Rattle.first_form.specs.TopNames.{TopNames}
 use Rattle.first_form.specs.Waveform.{AreScalars}
 use Rattle.vcd_laws.specs.Laws.{WrittenIsRead}
-use Rattle.vcd_laws.specs.Writable.{AreWritable}
+use Rattle.trace_rows.specs.Writable.{AreWritable}
 use Rattle.vcd_reader.specs.Rows.{Reading}
 use Rattle.bm_base.specs.declared.size.Size.TheVariants as size
 use Rattle.bm_cli.proofs.NameLemmas.{labels_are_scalars}

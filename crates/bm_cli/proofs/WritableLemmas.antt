@@ -10,7 +10,7 @@ use Rattle.std.proofs.lemmas.List.Sums.{list_all-from_AllPass}
 use Rattle.std.proofs.lemmas.Slice.Eq.{bytes_eq-Decides}
 use Rattle.trace_rows.specs.declared.labels.Labels.{Labels}
 use Rattle.trace_rows.specs.declared.labels.PortLabel.{PortLabel}
-use Rattle.vcd_laws.specs.Writable.{AreWritable, IsPort, IsPrintable, signals}
+use Rattle.trace_rows.specs.Writable.{AreWritable, IsPort, IsPrintable, signals}
 use Rattle.vcd_writer.specs.Value.{row_width}
 use Rattle.vlog_tree.specs.declared.design.Design.{Design}
 use Rattle.vlog_tree.specs.declared.item.Dir.TheVariants.{Input, Output}

@@ -9,8 +9,7 @@ use Rattle.vcd_reader.specs.Rows.{Reading}
 use Rattle.vcd_reader.specs.Waveform.{limited, waveform}
 use Rattle.vlog_parse.specs.Refusals.{IsInProfile}
 use Rattle.vlog_tree.specs.declared.design.Design.{Design}
-use Rattle.vlog_tree.specs.Keys.{input_keys, register_keys}
-use Rattle.vlog_tree.specs.Machine.{Machine}
+use Rattle.trace_rows.specs.Machine.{Machine}
 use Rattle.vlog_tree.specs.Spelling.{Spells}
 use Rattle.first_form.specs.FirstForm.{IsFirstForm}
 use Rattle.first_form.specs.Labels.{labels_of}
@@ -32,10 +31,10 @@ pub record SpellsNetlist (names : TopNames) (bytes : List ℕ) (design : Design)
 
 -- how many registers and input bits a machine has
 abbrev pub register_count : Machine → ℕ
-register_count machine = length (register_keys machine)
+register_count machine = length machine.start
 
 abbrev pub input_count : Machine → ℕ
-input_count machine = length (input_keys machine)
+input_count machine = length machine.base
 
 -- the first of these sizes that passes its limit
 abbrev pub size_passed : ℕ → ℕ → Option Size

@@ -5,8 +5,8 @@ use Rattle.trace_rows.specs.declared.labels.Labels.{Labels}
 use Rattle.vcd_reader.specs.Rows.{Reading}
 use Rattle.vcd_reader.specs.Waveform.{waveform}
 use Rattle.vcd_writer.specs.Waveform.{vcd}
-use Rattle.vlog_tree.specs.Machine.{Machine}
-use Rattle.vlog_tree.specs.Run as run
+use Rattle.trace_rows.specs.Machine.{Machine}
+use Rattle.trace_rows.specs.Run as run
 use Rattle.first_form.specs.Acceptance.{IsAccepted}
 use Rattle.bm_cli.specs.Counted.{base_row, summary_of}
 use Rattle.first_form.specs.Deletion.{EndsBad, NoCut}

@@ -8,7 +8,7 @@ use Rattle.bm_base.specs.declared.size.Size.TheVariants as size
 use Rattle.vcd_header.specs.declared.fault.VcdFault.{VcdFault}
 use Rattle.vcd_reader.specs.Rows.{Reading}
 use Rattle.vlog_tree.specs.declared.design.Design.{Design}
-use Rattle.vlog_tree.specs.Run.{IsFirstAtLast, Violates}
+use Rattle.trace_rows.specs.Run.{IsFirstAtLast, Violates}
 use Rattle.first_form.specs.Acceptance.{HasLeastCut, IsAccepted}
 use Rattle.bm_cli.specs.Counted.{accepted_of}
 use Rattle.bm_cli.specs.Input.{IsNetlist, IsTooLarge, IsWaveform, IsWaveformFault, design_labels, register_count}

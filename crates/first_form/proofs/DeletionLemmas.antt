@@ -6,9 +6,9 @@ use Rattle.std.proofs.lemmas.List.{length-take-le, take_all}
 use Rattle.std.proofs.lemmas.List.Quantifiers.{position-Some}
 use Rattle.std.proofs.lemmas.Option.{none-some, same_Some}
 use Rattle.trace_rows.specs.Cut.{cut}
-use Rattle.trace_rows.specs.CutLemmas.{All-cut}
+use Rattle.trace_rows.proofs.CutLemmas.{All-cut}
 use Rattle.trace_rows.specs.Rows.{Rows, first_rows}
-use Rattle.vlog_tree.specs.Run.{IsFirstAtLast}
+use Rattle.trace_rows.specs.Run.{IsFirstAtLast}
 use Rattle.first_form.specs.Deletion.{CutsAreTold, EndsAreTold, EndsBad}
 use Rattle.first_form.specs.Simulation.{check_of, checks, first_bad, state_after, zeros}
 use Rattle.first_form.specs.declared.circuit.Circuit.{Circuit}

@@ -4,9 +4,9 @@ use Rattle.std.specs.Option.{option_or}
 use Rattle.std.proofs.lemmas.Bool.{cond-true, cond-false, or_parts}
 use Rattle.std.proofs.lemmas.Option.{same_Some, none-some}
 use Rattle.vlog_tree.specs.declared.item.Item.{Item}
-use Rattle.vlog_tree.specs.Keys.{same_key}
-use Rattle.vlog_tree.specs.Machine.{Machine}
-use Rattle.vlog_tree.specs.Value.{by_driver, drives, entry, read}
+use Rattle.first_form.specs.Meaning.Keys.{same_key}
+use Rattle.first_form.specs.Meaning.Netlist.{Netlist}
+use Rattle.first_form.specs.Meaning.Value.{by_driver, drives, entry, read}
 use Rattle.first_form.specs.Circuit.{value_of}
 use Rattle.first_form.specs.FirstForm.{Text, are_distinct, inputs, is_among, registers, without}
 use Rattle.first_form.proofs.MeaningItems.{key}
@@ -41,8 +41,8 @@ entry_at (b ∷ names) (value ∷ values) (suc n) a d h lt =
     cond-false (same_key (key b) (key a)) _ _ (key_same b a ∙ other) ∙ entry_at names values n a (distinct_tail b names d) h (omega arith)
 
 -- one step of a reading
-pub read_flat : (machine : Machine) (items : List Item) (state row : List Bool) (steps : ℕ) (a : Text) → IsFlat machine items
-    → read machine state row (suc steps) (key a) ≡ option_or (entry (map key (registers items)) state (key a)) (option_or (entry (map key (without machine.clock (inputs items))) row (key a))
-    (cond (bytes_eq a machine.clock) (Some false) (by_driver (read machine state row steps) (key a) (find (drives (key a)) items))))
-read_flat machine items state row steps a flat = λ i. option_or (entry (flat.registers i) state (key a)) (option_or (entry (flat.inputs i) row (key a))
-    (cond (bytes_eq a machine.clock) (Some false) (by_driver (read machine state row steps) (key a) (find (drives (key a)) (flat.body i)))))
+pub read_flat : (netlist : Netlist) (items : List Item) (state row : List Bool) (steps : ℕ) (a : Text) → IsFlat netlist items
+    → read netlist state row (suc steps) (key a) ≡ option_or (entry (map key (registers items)) state (key a)) (option_or (entry (map key (without netlist.clock (inputs items))) row (key a))
+    (cond (bytes_eq a netlist.clock) (Some false) (by_driver (read netlist state row steps) (key a) (find (drives (key a)) items))))
+read_flat netlist items state row steps a flat = λ i. option_or (entry (flat.registers i) state (key a)) (option_or (entry (flat.inputs i) row (key a))
+    (cond (bytes_eq a netlist.clock) (Some false) (by_driver (read netlist state row steps) (key a) (find (drives (key a)) (flat.body i)))))

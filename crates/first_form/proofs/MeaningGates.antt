@@ -8,7 +8,7 @@ use Rattle.vlog_tree.specs.declared.expr.Expr.TheVariants as expr
 use Rattle.vlog_tree.specs.declared.item.GateKind.TheVariants as kind
 use Rattle.vlog_tree.specs.declared.item.Item.{Item}
 use Rattle.vlog_tree.specs.declared.item.Item.TheVariants as item
-use Rattle.vlog_tree.specs.Value.{Reading, driven_bit, drives}
+use Rattle.first_form.specs.Meaning.Value.{Reading, driven_bit, drives}
 use Rattle.first_form.specs.Circuit.{ReadsBelow, gate_value, value_of, with_gates}
 use Rattle.first_form.specs.FirstForm.{Text, are_distinct, driven_name, is_plain_item}
 use Rattle.first_form.specs.Wired.{AreGatesOf, IsGateOf, IsSignal, is_gate}

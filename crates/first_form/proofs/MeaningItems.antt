@@ -17,9 +17,9 @@ use Rattle.vlog_tree.specs.declared.key.Key.{Key}
 use Rattle.vlog_tree.specs.declared.left.Left.{Left}
 use Rattle.vlog_tree.specs.declared.left.Left.TheVariants as left
 use Rattle.vlog_tree.specs.declared.stmt.Stmt.TheVariants.{Set}
-use Rattle.vlog_tree.specs.Names.{declared_width, declares_input, declares_register, range_width}
-use Rattle.vlog_tree.specs.Step.{after_item, known}
-use Rattle.vlog_tree.specs.Value.{Reading, drives, is_right_end, place_in}
+use Rattle.first_form.specs.Meaning.Names.{declared_width, declares_input, declares_register, range_width}
+use Rattle.first_form.specs.Meaning.Step.{after_item, known}
+use Rattle.first_form.specs.Meaning.Value.{Reading, drives, is_right_end, place_in}
 use Rattle.first_form.specs.FirstForm.{Text, are_gate_ins, are_gate_outs, declared_name, driven_name, first_left, input_name, is_plain_item, is_plain_kind, is_whole, is_whole_left, left_name, net_name, register_name, taken_name, whole_name, written_name}
 use Rattle.first_form.specs.Wired.{is_gate}
 use Rattle.first_form.proofs.MeaningParts.{holds}

@@ -1,4 +1,4 @@
--- The keys of a machine whose design is one flat module.
+-- The keys of a netlist whose design is one flat module.
 use Rattle.std.proofs.Common.{◌≡◌, List, [], ◌∷◌, ◌++◌, Bool, true, false, not, ◌&&◌, ◌||◌, Some, None, Option, bytes_eq, filter, find, map, flat_map, option_map, option_to_list, append-nil, refl, ap, sym, ◌∙◌, subst}
 use Rattle.std.specs.List.{cons_option, list_all, list_any, range_with_len}
 use Rattle.std.proofs.lemmas.Bool.{and_parts, cond-true, false_from_ne_true, false≢true, not_from_false, not_from_true}
@@ -9,13 +9,13 @@ use Rattle.vlog_tree.specs.declared.design.Design.{Design}
 use Rattle.vlog_tree.specs.declared.design.Module.{Module}
 use Rattle.vlog_tree.specs.declared.item.Item.{Item}
 use Rattle.vlog_tree.specs.declared.item.Item.TheVariants.{Decl, Assign, Gate, Instance as Part, Always, Initial}
-use Rattle.vlog_tree.specs.Keys.{Instance, all_keys, input_keys, keys_of, name_keys, register_keys, same_path, top_instance}
-use Rattle.vlog_tree.specs.Machine.{Machine}
-use Rattle.vlog_tree.specs.Names as name
-use Rattle.vlog_tree.specs.Names.{declares_input, declares_register, firsts, names, width_of}
-use Rattle.vlog_tree.specs.Value.{items_at, items_in}
+use Rattle.first_form.specs.Meaning.Keys.{Instance, all_keys, input_keys, keys_of, name_keys, register_keys, same_path, top_instance}
+use Rattle.first_form.specs.Meaning.Netlist.{Netlist}
+use Rattle.first_form.specs.Meaning.Names as name
+use Rattle.first_form.specs.Meaning.Names.{declares_input, declares_register, firsts, names, width_of}
+use Rattle.first_form.specs.Meaning.Value.{items_at, items_in}
 use Rattle.first_form.specs.FirstForm.{Text, are_distinct, begin_with_ports, declared, declared_name, input_name, inputs, is_among, is_plain_item, is_port, register_name, registers, without}
-use Rattle.first_form.specs.Means.{machine_of}
+use Rattle.first_form.specs.Means.{netlist_of}
 use Rattle.first_form.specs.TopNames.{TopNames}
 use Rattle.first_form.proofs.AmongLemmas.{same_text}
 use Rattle.first_form.proofs.MeaningItems.{declares_input_is, declares_register_is, input_declared, key, register_declared, width_one}
@@ -101,18 +101,18 @@ module_inputs m e p d =
 
 -- ---- the keys
 
--- The machine is one flat module of these items.
-pub record IsFlat (machine : Machine) (items : List Item) : Type 0 where
-  pub registers : register_keys machine ≡ map key (registers items)
-  pub inputs : input_keys machine ≡ map key (without machine.clock (inputs items))
-  pub all : all_keys machine ≡ map key (declared items)
-  pub body : items_at machine [] ≡ items
+-- The netlist is one flat module of these items.
+pub record IsFlat (netlist : Netlist) (items : List Item) : Type 0 where
+  pub registers : register_keys netlist ≡ map key (registers items)
+  pub inputs : input_keys netlist ≡ map key (without netlist.clock (inputs items))
+  pub all : all_keys netlist ≡ map key (declared items)
+  pub body : items_at netlist [] ≡ items
 
 -- the instance of the top
 abbrev pub top_of : Module → Instance
 top_of m = record { path = []; definition = m }
 
-pub top_alone : (names : TopNames) (design : Design) (m : Module) → design.modules ≡ m ∷ [] → m.name ≡ names.top → top_instance (machine_of names design) ≡ top_of m ∷ []
+pub top_alone : (names : TopNames) (design : Design) (m : Module) → design.modules ≡ m ∷ [] → m.name ≡ names.top → top_instance (netlist_of names design) ≡ top_of m ∷ []
 top_alone names design m only same =
     let named : bytes_eq m.name names.top ≡ true = subst (λ a. bytes_eq m.name a ≡ true) same (same_name m.name) in
     ap (λ (ms : List Module). option_to_list (option_map top_of (find (λ m. bytes_eq m.name names.top) ms))) only
@@ -128,10 +128,10 @@ each_key m (x ∷ xs) p = λ i. one_key m x (width_one m.items x p) i ++ each_ke
 top_keys : (m : Module) (choice : Module → List Text) (tops : List Instance) → tops ≡ top_of m ∷ [] → list_all is_plain_item m.items ≡ true → keys_of choice tops ≡ map key (choice m)
 top_keys m choice tops e p = ap (keys_of choice) e ∙ append-nil (flat_map (name_keys (top_of m)) (choice m)) ∙ each_key m (choice m) p
 
-pub is_flat : (machine : Machine) (m : Module) → top_instance machine ≡ top_of m ∷ [] → names m ≡ declared m.items → list_all is_plain_item m.items ≡ true → are_distinct (declared m.items) ≡ true → IsFlat machine m.items
-is_flat machine m top e p d = record {
-  registers = top_keys m name.registers (top_instance machine) top p ∙ ap (map key) (module_registers m e p d);
-  inputs = top_keys m (λ m. without machine.clock (name.inputs m)) (top_instance machine) top p ∙ ap (λ xs. map key (without machine.clock xs)) (module_inputs m e p d);
-  all = top_keys m names (top_instance machine) top p ∙ ap (map key) e;
+pub is_flat : (netlist : Netlist) (m : Module) → top_instance netlist ≡ top_of m ∷ [] → names m ≡ declared m.items → list_all is_plain_item m.items ≡ true → are_distinct (declared m.items) ≡ true → IsFlat netlist m.items
+is_flat netlist m top e p d = record {
+  registers = top_keys m name.registers (top_instance netlist) top p ∙ ap (map key) (module_registers m e p d);
+  inputs = top_keys m (λ m. without netlist.clock (name.inputs m)) (top_instance netlist) top p ∙ ap (λ xs. map key (without netlist.clock xs)) (module_inputs m e p d);
+  all = top_keys m names (top_instance netlist) top p ∙ ap (map key) e;
   body = ap (λ (tops : List Instance). items_in (find (λ instance. same_path instance.path []) tops)) top;
 }

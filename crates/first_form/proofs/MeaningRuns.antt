@@ -2,11 +2,10 @@
 use Rattle.std.proofs.Common.{◌≡◌, List, [], ◌∷◌, Bool, false, All, length, position, refl, ap, ◌∙◌}
 use Rattle.std.proofs.lemmas.List.{length-map, length-replicate}
 use Rattle.std.proofs.lemmas.List.Elements.{All-head, All-tail}
-use Rattle.vlog_tree.specs.Machine.{Machine}
-use Rattle.vlog_tree.specs.Run as run
-use Rattle.vlog_tree.specs.Run.{checks_from}
-use Rattle.vlog_tree.specs.Step.{next}
-use Rattle.vlog_tree.specs.Violations.{first_at_last, no_violation}
+use Rattle.trace_rows.specs.Machine.{Machine}
+use Rattle.trace_rows.specs.Run as run
+use Rattle.trace_rows.specs.Run.{checks_from}
+use Rattle.trace_rows.proofs.ViolationLemmas.{first_at_last, no_violation}
 use Rattle.first_form.specs.Circuit.{settled, value_of}
 use Rattle.first_form.specs.Means.{IsMachine, RunsAgree, ViolationsAreTold}
 use Rattle.first_form.specs.Simulation.{checks, state_after, zeros}
@@ -23,7 +22,7 @@ agree_from machine circuit is state long (row ∷ rows) wide =
     let here : length row ≡ circuit.inputs = All-head (λ row. length row ≡ circuit.inputs) row rows wide in
     let rest : checks_from machine (state_after circuit state row) rows ≡ checks circuit (state_after circuit state row) rows =
     agree_from machine circuit is (state_after circuit state row) (state_long circuit state row) rows (All-tail (λ row. length row ≡ circuit.inputs) row rows wide) in
-    let step : checks_from machine (next machine state row) rows ≡ checks circuit (state_after circuit state row) rows = ap (λ s. checks_from machine s rows) (is.steps state row long here) ∙ rest in
+    let step : checks_from machine (machine.next state row) rows ≡ checks circuit (state_after circuit state row) rows = ap (λ s. checks_from machine s rows) (is.steps state row long here) ∙ rest in
     λ i. is.checks state row long here i ∷ step i
 
 pub runs_agree : RunsAgree

@@ -4,9 +4,9 @@ use Rattle.std.specs.List.{list_all, cons_option}
 use Rattle.std.proofs.lemmas.Bool.{and_parts, cond-false, cond-true, false_from_ne_true, or_parts}
 use Rattle.std.proofs.lemmas.Option.{none-some, same_Some, slice_get-get_or}
 use Rattle.vlog_tree.specs.declared.item.Item.{Item}
-use Rattle.vlog_tree.specs.Machine.{Machine}
-use Rattle.vlog_tree.specs.Step.{after_item, known, next_bit}
-use Rattle.vlog_tree.specs.Value.{Reading, items_at}
+use Rattle.first_form.specs.Meaning.Netlist.{Netlist}
+use Rattle.first_form.specs.Meaning.Step.{after_item, known, next_bit}
+use Rattle.first_form.specs.Meaning.Value.{Reading, items_at}
 use Rattle.first_form.specs.Circuit.{value_of}
 use Rattle.first_form.specs.FirstForm.{Text, are_distinct, is_among, is_plain_item, taken_name, written, written_name}
 use Rattle.first_form.specs.Wired.{AreTaken, IsSignal, Takes}
@@ -50,19 +50,19 @@ move_at : (items : List Item) (move : Item) → Contains items move → (k : ℕ
 move_at items move (k, lt, e) = (k, slice_get-get_or items k move lt ∙ ap Some e)
 
 -- The registers' bits after an edge are the signals that they take.
-pub registers_next : (machine : Machine) (read : Reading) (values : List Bool) (names : List Text) (items : List Item) → items_at machine [] ≡ items → list_all is_plain_item items ≡ true
+pub registers_next : (netlist : Netlist) (read : Reading) (values : List Bool) (names : List Text) (items : List Item) → items_at netlist [] ≡ items → list_all is_plain_item items ≡ true
     → are_distinct (written items) ≡ true → ((n : ℕ) (a : Text) → IsSignal names n a → read (key a) ≡ Some (value_of values n))
     → (registers : List Text) (state : List Bool) (taken : List ℕ) → AreTaken names items registers taken → length state ≡ length taken
-    → map (λ register. next_bit machine read register.0 register.1) (zip (map key registers) state) ≡ map (value_of values) taken
-registers_next machine read values names items body p d signal [] state [] t long = refl
-registers_next machine read values names items body p d signal [] state (n ∷ taken) t long = absurd t
-registers_next machine read values names items body p d signal (r ∷ registers) state [] t long = absurd t
-registers_next machine read values names items body p d signal (r ∷ registers) [] (n ∷ taken) t long = absurd (omega (arith, long))
-registers_next machine read values names items body p d signal (r ∷ registers) (v ∷ state) (n ∷ taken) t long =
+    → map (λ register. next_bit netlist read register.0 register.1) (zip (map key registers) state) ≡ map (value_of values) taken
+registers_next netlist read values names items body p d signal [] state [] t long = refl
+registers_next netlist read values names items body p d signal [] state (n ∷ taken) t long = absurd t
+registers_next netlist read values names items body p d signal (r ∷ registers) state [] t long = absurd t
+registers_next netlist read values names items body p d signal (r ∷ registers) [] (n ∷ taken) t long = absurd (omega (arith, long))
+registers_next netlist read values names items body p d signal (r ∷ registers) (v ∷ state) (n ∷ taken) t long =
     let one : Takes names items r n = t.0 in
     let at : (k : ℕ) × (slice_get items k ≡ Some one.move) = move_at items one.move one.stands in
-    let here : next_bit machine read (key r) v ≡ value_of values n =
+    let here : next_bit netlist read (key r) v ≡ value_of values n =
     ap (fold (after_item read (key r)) v) body ∙ after_move read items at.0 one.move r one.source v p d at.1 one.writes one.reads ∙ ap known (signal n one.source one.is) in
-    let rest : map (λ register. next_bit machine read register.0 register.1) (zip (map key registers) state) ≡ map (value_of values) taken =
-    registers_next machine read values names items body p d signal registers state taken t.1 (omega (arith, long)) in
+    let rest : map (λ register. next_bit netlist read register.0 register.1) (zip (map key registers) state) ≡ map (value_of values) taken =
+    registers_next netlist read values names items body p d signal registers state taken t.1 (omega (arith, long)) in
     λ i. here i ∷ rest i

@@ -1,9 +1,9 @@
 -- Which traces are minimal as far as single cycles go.
 use Rattle.std.specs.Prelude.{ℕ, ◌<◌, List, Bool, length}
 use Rattle.trace_rows.specs.Cut.{cut}
-use Rattle.vlog_tree.specs.Machine.{Machine}
-use Rattle.vlog_tree.specs.Run.{IsFirstAtLast, Violates}
-use Rattle.first_form.specs.Deletion.{NoCutViolates}
+use Rattle.trace_rows.specs.Machine.{Machine}
+use Rattle.trace_rows.specs.Minimal.{NoCutViolates}
+use Rattle.trace_rows.specs.Run.{IsFirstAtLast, Violates}
 
 -- The trace violates first at its last cycle, and no deletion of a single cycle leaves one that violates.
 pub record IsAccepted (machine : Machine) (rows : List (List Bool)) : Type 0 where

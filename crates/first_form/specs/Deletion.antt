@@ -1,15 +1,12 @@
 -- The deletion of single cycles.
 use Rattle.std.specs.Prelude.{◌≡◌, ℕ, ◌-◌, ◌<◌, ◌≤◌, List, Bool, All, IsSome, Option, Some, None, length}
 use Rattle.trace_rows.specs.Cut.{cut}
-use Rattle.vlog_tree.specs.Machine.{Machine}
-use Rattle.vlog_tree.specs.Run.{IsFirstAtLast, Violates}
+use Rattle.trace_rows.specs.Machine.{Machine}
+use Rattle.trace_rows.specs.Minimal.{NoCutViolates}
+use Rattle.trace_rows.specs.Run.{IsFirstAtLast}
 use Rattle.first_form.specs.Means.{IsMachine}
 use Rattle.first_form.specs.Simulation.{first_bad, zeros}
 use Rattle.first_form.specs.declared.circuit.Circuit.{Circuit}
-
--- No deletion of a single cycle leaves a trace that violates.
-abbrev pub NoCutViolates : Machine → List (List Bool) → Type 0
-NoCutViolates machine rows = (i : ℕ) → i < length rows → Violates machine (cut rows i) → ⊥
 
 -- the circuit's first bad cycle without the cycle at this place
 abbrev pub cut_bad : Circuit → List (List Bool) → ℕ → Option ℕ

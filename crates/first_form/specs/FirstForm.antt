@@ -19,8 +19,8 @@ use Rattle.vlog_tree.specs.declared.expr.Expr.{Expr}
 use Rattle.vlog_tree.specs.declared.expr.Expr.TheVariants as expr
 use Rattle.vlog_tree.specs.declared.stmt.Stmt.{Stmt}
 use Rattle.vlog_tree.specs.declared.stmt.Stmt.TheVariants.{Set}
-pub use Rattle.vlog_tree.specs.Keys.{without}
-pub use Rattle.vlog_tree.specs.Names.{Text, declared_name}
+pub use Rattle.first_form.specs.Meaning.Keys.{without}
+pub use Rattle.first_form.specs.Meaning.Names.{Text, declared_name}
 use Rattle.first_form.specs.TopNames.{TopNames}
 
 -- the name that is the whole expression

@@ -4,6 +4,7 @@ pub mod Deletion
 pub mod FirstForm
 pub mod Labels
 pub mod LoopFree
+pub mod Meaning
 pub mod Means
 pub mod Roles
 pub mod Simulation

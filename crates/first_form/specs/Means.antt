@@ -1,12 +1,11 @@
 -- A circuit is the machine of a design.
 use Rattle.std.specs.Prelude.{◌≡◌, ℕ, ◌+◌, List, Bool, All, Some, None, length, take}
 use Rattle.vlog_tree.specs.declared.design.Design.{Design}
-use Rattle.vlog_tree.specs.Keys.{input_keys, register_keys}
-use Rattle.vlog_tree.specs.Machine.{Machine}
-use Rattle.vlog_tree.specs.Run as run
-use Rattle.vlog_tree.specs.Run.{IsFirstAtLast, Violates}
-use Rattle.vlog_tree.specs.Step.{bad, next, start}
-use Rattle.vlog_tree.specs.Value.{IsLoopFree}
+use Rattle.trace_rows.specs.Machine.{Machine}
+use Rattle.trace_rows.specs.Run as run
+use Rattle.trace_rows.specs.Run.{IsFirstAtLast, Violates}
+use Rattle.first_form.specs.Meaning.Netlist.{Netlist}
+use Rattle.first_form.specs.Meaning.Step.{machine}
 use Rattle.first_form.specs.Circuit.{IsInOrder}
 use Rattle.first_form.specs.FirstForm.{IsFirstForm}
 use Rattle.first_form.specs.Simulation.{check_of, checks, first_bad, state_after, zeros}
@@ -14,21 +13,24 @@ use Rattle.first_form.specs.TopNames.{TopNames}
 use Rattle.first_form.specs.Wired.{IsWired, items_of}
 use Rattle.first_form.specs.declared.circuit.Circuit.{Circuit}
 
--- the machine of a design, by the names of the command
+-- a design with the names of the command
+abbrev pub netlist_of : TopNames → Design → Netlist
+netlist_of names design = record { design = design; top = names.top; clock = names.clock; check = names.check }
+
+-- its machine
 abbrev pub machine_of : TopNames → Design → Machine
-machine_of names design = record { design = design; top = names.top; clock = names.clock; check = names.check }
+machine_of names design = machine (netlist_of names design)
 
 -- The circuit has a place for each of the machine's registers and inputs, and the same first state, next states and
 -- checker.
 pub record IsMachine (machine : Machine) (circuit : Circuit) : Type 0 where
-  pub registers : length (register_keys machine) ≡ length circuit.next.items
-  pub inputs : length (input_keys machine) ≡ circuit.inputs
-  pub starts : start machine ≡ zeros circuit
+  pub registers : length machine.start ≡ length circuit.next.items
+  pub inputs : length machine.base ≡ circuit.inputs
+  pub starts : machine.start ≡ zeros circuit
   pub steps : (state row : List Bool) → length state ≡ length circuit.next.items → length row ≡ circuit.inputs
-      → next machine state row ≡ state_after circuit state row
+      → machine.next state row ≡ state_after circuit state row
   pub checks : (state row : List Bool) → length state ≡ length circuit.next.items → length row ≡ circuit.inputs
-      → bad machine state row ≡ check_of circuit state row
-  pub loop_free : IsLoopFree machine
+      → machine.bad state row ≡ check_of circuit state row
 
 -- The circuit that is wired as a design of the first form says is the design's machine.
 abbrev pub CircuitIsMachine : Type 0

@@ -1,2 +1,4 @@
+pub mod CutLemmas
 pub mod EventLemmas
 pub mod PlaceLemmas
+pub mod ViolationLemmas

@@ -7,7 +7,7 @@ use Rattle.vcd_header.specs.Header.{header_fault}
 use Rattle.vcd_header.specs.Sections.{body, groups, header}
 use Rattle.vcd_header.specs.Tokens.{Tok, tokens_from}
 use Rattle.vcd_writer.specs.Code.{first_port}
-use Rattle.vcd_laws.specs.Writable.{AreWritable}
+use Rattle.trace_rows.specs.Writable.{AreWritable}
 use Rattle.vcd_laws.specs.Written.{clock_source, header_text, input_sources}
 use Rattle.vcd_laws.proofs.HeaderGroups.{line_groups, lines_groups}
 use Rattle.vcd_laws.proofs.HeaderLines.{AreFew, closed, header_sections, header_tokens, header_words}

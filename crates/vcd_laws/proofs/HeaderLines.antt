@@ -14,7 +14,7 @@ use Rattle.vcd_writer.specs.Header.{check_declaration, closing_lines, header, op
 use Rattle.vcd_writer.specs.Line.{text_of}
 use Rattle.vcd_writer.specs.WrittenName.{is_plain, written_name}
 use Rattle.vcd_writer.proofs.CodeSteps.{code_of_last, code_of_step}
-use Rattle.vcd_laws.specs.Writable.{AreWritable, HasWidth, IsPort}
+use Rattle.trace_rows.specs.Writable.{AreWritable, HasWidth, IsPort}
 use Rattle.vcd_laws.specs.Written.{header_text}
 use Rattle.vcd_laws.proofs.TextTokens.{AreLines, AreRuns, is_run, lines_tokens, placed_lines, spaced}
 use Rattle.vcd_laws.proofs.TextWords.{all_weaker, code_number, code_number_of, code_run, decimal_digits, decimal_run, digit_ink, name_run, other_bytes}

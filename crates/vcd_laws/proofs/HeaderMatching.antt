@@ -13,7 +13,7 @@ use Rattle.vcd_header.specs.Scopes.{Path, same_path, without_backslash}
 use Rattle.vcd_header.specs.Variables.{Variable, size_of}
 use Rattle.vcd_writer.specs.Code.{check_code, clock_code, code_of, first_port}
 use Rattle.vcd_writer.specs.WrittenName.{written_name}
-use Rattle.vcd_laws.specs.Writable.{AreWritable, HasWidth, IsPort}
+use Rattle.trace_rows.specs.Writable.{AreWritable, HasWidth, IsPort}
 use Rattle.vcd_laws.specs.Written.{clock_source, input_sources, port_sources}
 use Rattle.vcd_laws.proofs.HeaderNames.{select_for}
 use Rattle.vcd_laws.proofs.HeaderReading.{all_declared, all_variables, no_code_after_first}

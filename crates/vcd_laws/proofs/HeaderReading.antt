@@ -9,7 +9,7 @@ use Rattle.vcd_header.specs.Variables.{Variable}
 use Rattle.vcd_header.proofs.HeaderSteps.{HasDone}
 use Rattle.vcd_writer.specs.Code.{clock_code, first_port}
 use Rattle.vcd_writer.specs.WrittenName.{written_name}
-use Rattle.vcd_laws.specs.Writable.{AreWritable}
+use Rattle.trace_rows.specs.Writable.{AreWritable}
 use Rattle.vcd_laws.proofs.HeaderGroups.{IsLast, begun, line_last, line_more, next}
 use Rattle.vcd_laws.proofs.HeaderLines.{AreFew, AreSections, check_sections, check_words, closed, closing_words, header_words, later_sections, name_no_end, port_words, ports_sections, scope_words, timescale_words, variable_inside, variable_words, version_words}
 use Rattle.vcd_laws.proofs.HeaderVariables.{NoCodeFrom, check_variables, declared_at, first_variables, no_code_more, path_of, place_behind, port_variables, ports_more, variable_at, variable_more}

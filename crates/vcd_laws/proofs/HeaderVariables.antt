@@ -18,7 +18,7 @@ use Rattle.vcd_header.specs.Variables.{Variable, declared_by, name_and_select, o
 use Rattle.vcd_header.proofs.HeaderSteps.{HasDone}
 use Rattle.vcd_writer.specs.Code.{code_of}
 use Rattle.vcd_writer.specs.WrittenName.{written_name}
-use Rattle.vcd_laws.specs.Writable.{HasWidth, IsPort}
+use Rattle.trace_rows.specs.Writable.{HasWidth, IsPort}
 use Rattle.vcd_laws.proofs.HeaderGroups.{line_more, next}
 use Rattle.vcd_laws.proofs.HeaderLines.{AreInside, AreSections, closed, port_words, range_words, variable_words}
 use Rattle.vcd_laws.proofs.HeaderNames.{IsSmall, name_read, select_for}

@@ -13,7 +13,8 @@ use Rattle.vcd_reader.specs.Waveform.{body_fault, body_reading, unless}
 use Rattle.vcd_writer.specs.Code.{first_port}
 use Rattle.vcd_writer.specs.Value.{row_width}
 use Rattle.vcd_writer.specs.Waveform.{check_of, row_time}
-use Rattle.vcd_laws.specs.Writable.{AreRowsOf, AreWritable}
+use Rattle.vcd_laws.specs.Laws.{AreRowsOf}
+use Rattle.trace_rows.specs.Writable.{AreWritable}
 use Rattle.vcd_laws.specs.Written.{clock_source, input_sources, port_sources}
 use Rattle.vcd_laws.proofs.Joint.{HasSizes, bare, block_items}
 use Rattle.vcd_laws.proofs.ReadFaults.{bare_fault, blocks_have_no_fault}

@@ -11,7 +11,7 @@ use Rattle.vcd_reader.specs.Values.{digit_at, digit_given, is_unknown, is_unknow
 use Rattle.vcd_writer.specs.Code.{code_of, first_port}
 use Rattle.vcd_writer.specs.Value.{are_same, bit_digits, row_width}
 use Rattle.vcd_writer.specs.Waveform.{check_of, row_time}
-use Rattle.vcd_laws.specs.Writable.{HasWidth, IsPort}
+use Rattle.trace_rows.specs.Writable.{HasWidth, IsPort}
 use Rattle.vcd_laws.proofs.Joint.{check_change_items, check_items, port_change, port_change_items, port_items, value_item}
 use Rattle.vcd_laws.proofs.ReadItems.{check_change_is, check_is_change, first_triples, later_triples, port_change_is, row_triples, triples_append}
 use Rattle.vcd_laws.proofs.ReadPorts.{width_first, width_rest}

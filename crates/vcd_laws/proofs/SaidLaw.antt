@@ -10,7 +10,7 @@ use Rattle.vcd_reader.specs.Body.{items}
 use Rattle.vcd_writer.specs.Code.{code_of, first_port}
 use Rattle.vcd_writer.specs.Value.{are_same, check_change_lines, check_lines, port_change, port_change_lines, port_value_lines, row_width, scalar_line}
 use Rattle.vcd_writer.specs.Waveform.{blocks, check_of, edge_block, edge_time, first_block, later_blocks, row_block, row_time}
-use Rattle.vcd_laws.specs.Writable.{IsPort}
+use Rattle.trace_rows.specs.Writable.{IsPort}
 use Rattle.vcd_laws.specs.Written.{body_text}
 use Rattle.vcd_laws.proofs.Joint.{bare, block_items, check_change_items, check_items, edge_items, first_items, later_items, port_change as port_change_item, port_change_items, port_items, row_items, scalar_item}
 use Rattle.vcd_laws.proofs.SaidForms.{code_has_bytes, code_is_graphic}

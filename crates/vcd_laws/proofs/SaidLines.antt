@@ -12,7 +12,7 @@ use Rattle.vcd_writer.specs.Code.{code_of}
 use Rattle.vcd_writer.specs.Line.{text_of}
 use Rattle.vcd_writer.specs.Value.{bit_digits, scalar_line, value_line}
 use Rattle.vcd_writer.specs.Waveform.{time_line}
-use Rattle.vcd_laws.specs.Writable.{HasWidth}
+use Rattle.trace_rows.specs.Writable.{HasWidth}
 use Rattle.vcd_laws.proofs.Joint.{bare, scalar_item, value_item}
 use Rattle.vcd_laws.proofs.TextTokens.{AreRuns, is_run, line_tokens, placed, spaced, tok_at}
 use Rattle.vcd_laws.proofs.SaidForms.{all_weaker, code_has_bytes, code_is_graphic, graphic_is_ink, scalar_is, scalar_is_ink, time_is, time_is_ink, vector_is, vector_is_ink}

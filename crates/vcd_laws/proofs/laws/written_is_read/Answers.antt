@@ -11,7 +11,8 @@ use Rattle.vcd_writer.specs.Header as writer
 use Rattle.vcd_writer.specs.Line.{text_of}
 use Rattle.vcd_writer.specs.Value.{row_width}
 use Rattle.vcd_writer.specs.Waveform.{blocks, vcd}
-use Rattle.vcd_laws.specs.Writable.{AreRowsOf, AreWritable}
+use Rattle.vcd_laws.specs.Laws.{AreRowsOf}
+use Rattle.trace_rows.specs.Writable.{AreWritable}
 use Rattle.vcd_laws.specs.Written.{body_text, clock_source, header_text, input_sources}
 use Rattle.vcd_laws.proofs.HeaderLaw.{HeaderIs, header_is_read}
 use Rattle.vcd_laws.proofs.ReadLaw.{body_is_read}

@@ -1,11 +1,10 @@
 -- Labels that a waveform can have.
-use Rattle.std.specs.Prelude.{◌≡◌, ◌≢◌, ◌<◌, ◌≤◌, ◌+◌, ◌-◌, ◌*◌, ◌^◌, ℕ, List, ◌∷◌, Bool, true, All, Option, None, Some, length, map, max, min}
+use Rattle.std.specs.Prelude.{◌≡◌, ◌≢◌, ◌<◌, ◌≤◌, ◌+◌, ◌-◌, ◌^◌, ℕ, List, ◌∷◌, true, All, Option, None, Some, length, map, max, min}
 use Rattle.std.specs.Char.{is_ascii_graphic}
 use Rattle.std.specs.List.{AllPairs, list_all}
 use Rattle.bm_base.specs.declared.range.Range.{Range}
 use Rattle.trace_rows.specs.declared.labels.Labels.{Labels}
 use Rattle.trace_rows.specs.declared.labels.PortLabel.{PortLabel}
-use Rattle.vcd_writer.specs.Value.{row_width}
 
 -- printable bytes: a name that is one token where it is written
 abbrev pub IsPrintable : List ℕ → Type 0
@@ -34,9 +33,3 @@ pub record AreWritable (labels : Labels) : Type 0 where
   pub ports : All IsPort labels.ports
   pub apart : AllPairs (λ (left right : List ℕ). left ≢ right) (signals labels)
   pub few : length labels.ports < 2 ^ 25
-
--- Rows that are as wide as the ports together. There is a row, and the times of all rows are below 2^64.
-pub record AreRowsOf (labels : Labels) (rows : List (List Bool)) : Type 0 where
-  pub some : 0 < length rows
-  pub width : All (λ row. length row ≡ row_width labels.ports) rows
-  pub times : 10 * length rows < 2 ^ 64
