@@ -1,0 +1,9 @@
+pub mod Failures
+pub mod Faults
+pub mod Graph
+pub mod Indexed
+pub mod Marks
+pub mod Places
+pub mod Reach
+pub mod Rules
+pub mod Shown
