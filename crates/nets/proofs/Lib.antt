@@ -1,0 +1,5 @@
+mod KeptLemmas
+mod NameLemmas
+mod NetLemmas
+mod PlacedLemmas
+mod UseLemmas
