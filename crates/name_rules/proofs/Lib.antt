@@ -1,0 +1,6 @@
+mod HeaderLemmas
+mod HistoryLemmas
+mod ListLemmas
+mod NameLemmas
+mod OwnerLemmas
+mod PortLemmas
