@@ -1,0 +1,4 @@
+mod FormLemmas
+mod ListLemmas
+mod RowLemmas
+mod ShapeLemmas
