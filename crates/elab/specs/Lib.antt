@@ -1,0 +1,4 @@
+pub mod Doubles
+pub mod Ports
+pub mod Refusals
+pub mod Targets
