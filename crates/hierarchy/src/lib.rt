@@ -15,3 +15,4 @@ mod steps;
 pub use failure::{Earliest, Failure};
 pub use fault::HierarchyFault;
 pub use modules::{Hierarchy, hierarchy_of};
+pub use search::reached_from;

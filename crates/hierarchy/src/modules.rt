@@ -57,8 +57,9 @@ impl<'a> Hierarchy<'a> {
         self.top
     }
 
-    /// The place of the module of a name.
+    /// The place of the module of a name, which no other module has.
     pub fn place_of(&self, name: &[u8]) -> Option<usize>
+        ensures distinct { AreDistinct self.now.design.modules }
         ensures within { IfSome result (λ place. place < length self.now.design.modules) }
         ensures place { result ≡ place_among self.now.design.modules name.now }
         ensures named { option_and_then (slice_get self.now.design.modules) result ≡ module_named self.now.design name.now }

@@ -7,7 +7,7 @@ use bm_base::NoMemory;
 use std::alloc::Global;
 
 /// Marks the places that are reached from one, the place itself among them. Each edge is taken once at most.
-pub(crate) fn reached_from(
+pub fn reached_from(
     alloc: Global,
     graph: &[Vec<usize>],
     start: usize,

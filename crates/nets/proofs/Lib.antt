@@ -1,5 +1,5 @@
 mod KeptLemmas
-mod NameLemmas
+pub mod NameLemmas
 mod NetLemmas
 mod PlacedLemmas
 mod UseLemmas

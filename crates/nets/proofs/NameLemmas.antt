@@ -1,11 +1,12 @@
 -- The names of a module are those of which it says something, and what it says of a name is found by the name.
-use Rattle.std.proofs.Common.{◌≡◌, ℕ, List, [], ◌∷◌, ◌++◌, Bool, true, false, not, ◌||◌, ◌&&◌, cond, Option, Some, None, is_some, refl, sym, ap, ◌∙◌, filter, flat_map, map}
+use Rattle.std.proofs.Common.{◌≡◌, ℕ, suc, List, [], ◌∷◌, ◌++◌, Bool, true, false, not, ◌||◌, ◌&&◌, cond, Option, Some, None, is_some, refl, sym, ap, ◌∙◌, ◌+◌, filter, flat_map, length, map, nat_lt}
 use Rattle.std.proofs.lemmas.List.Folds.{list_any-append}
 use Rattle.std.proofs.lemmas.Slice.Eq.{bytes_eq-Decides}
 use Rattle.std.specs.Borrow.{Bor}
-use Rattle.std.specs.List.{cons_option, filter_map, find, list_any}
+use Rattle.std.specs.List.{cons_option, filter_map, find, list_any, position_or_len}
 use Rattle.std.specs.Map.{lookup}
 use Rattle.std.specs.Option.{IfSome, option_copied, option_map, unwrap_or}
+use Rattle.std.specs.Prelude.{position}
 use Rattle.bm_base.specs.declared.range.Range.{Range}
 use Rattle.std.specs.Str.{bytes_eq}
 use Rattle.vlog_tree.specs.declared.design.Module.{Module}
@@ -212,6 +213,22 @@ module _ (m : Module) (name : Text) where
       ranged None = refl
       ranged (Some range) = refl
 
+  -- It is found where it has a range.
+  pub found_where_ranged : (entries : List (Bor Text × Net)) → entries_shown entries ≡ nets m → is_some (lookup (λ key. bytes_eq name key.now) entries) ≡ is_some (range_of m name)
+  found_where_ranged entries is = ap is_some (found_net entries is) ∙ ranged (range_of m name)
+    where
+      ranged : (range : Option Range) → is_some (option_map (net_with m name) range) ≡ is_some range
+      ranged None = refl
+      ranged (Some range) = refl
+
+  -- It is among the module's names where it has a range.
+  pub named_where_ranged : is_some (lookup (bytes_eq name) (nets m)) ≡ is_some (range_of m name)
+  named_where_ranged = ap is_some (found_said (net_of m) (names m) ∙ said_named) ∙ ranged (range_of m name)
+    where
+      ranged : (range : Option Range) → is_some (option_map (net_with m name) range) ≡ is_some range
+      ranged None = refl
+      ranged (Some range) = refl
+
   pub found_with : (result : Option (Bor Net)) → option_copied result ≡ net_of m name → IfSome result (λ net. net.now ≡ net_with m name net.now.range)
   found_with result is = by result (range_of m name) is
     where
@@ -222,3 +239,20 @@ module _ (m : Module) (name : Text) where
       by (Some net) (Some range) is =
           let same : net.now ≡ net_with m name range = ap (λ known. unwrap_or known net.now) is in
           same ∙ ap (net_with m name) (sym (ap (λ (net : Net). net.range) same))
+
+  -- the place of the name in a table, by its names
+  pub found_place : (entries : List (Bor Text × Net)) → entries_shown entries ≡ nets m
+      → position (λ key. bytes_eq name key.now) (map (λ entry. entry.0) entries) ≡ position (λ entry. bytes_eq name entry.0) (nets m)
+  found_place entries is =
+      ap (λ place. cond (nat_lt place (length (map (λ entry. entry.0) entries))) (Some place) None) (placed entries)
+      ∙ ap (λ len. cond (nat_lt (position_or_len (λ entry. bytes_eq name entry.0) (entries_shown entries)) len) (Some (position_or_len (λ entry. bytes_eq name entry.0) (entries_shown entries))) None) (as_long entries)
+      ∙ ap (position (λ entry. bytes_eq name entry.0)) is
+    where
+      placed : (entries : List (Bor Text × Net))
+          → position_or_len (λ key. bytes_eq name key.now) (map (λ entry. entry.0) entries) ≡ position_or_len (λ entry. bytes_eq name entry.0) (entries_shown entries)
+      placed [] = refl
+      placed (one ∷ entries) = ap (λ place. cond (not (bytes_eq name one.0.now)) (1 + place) 0) (placed entries)
+
+      as_long : (entries : List (Bor Text × Net)) → length (map (λ entry. entry.0) entries) ≡ length (entries_shown entries)
+      as_long [] = refl
+      as_long (one ∷ entries) = ap suc (as_long entries)

@@ -1,4 +1,5 @@
 ghost use Rattle.std.specs.Prelude.{◌≡◌};
+ghost use Rattle.vlog_tree.specs.Meaning.Ranges.{span};
 ghost use Rattle.nets.specs.Declaring.{declared_again, first_declared, implicit_net};
 
 use crate::marks::Marks;
@@ -105,6 +106,13 @@ impl Net {
         ensures { result ≡ self.now.range }
     {
         self.range
+    }
+
+    /// How many bits it has.
+    pub fn width(&self) -> usize
+        ensures { result ≡ span self.now.range }
+    {
+        self.range.left.abs_diff(self.range.right) as usize + 1
     }
 
     /// The first range that one of the declarations writes.

@@ -1,4 +1,4 @@
-ghost use Rattle.std.specs.Prelude.{◌≡◌, ◌<◌, ◌↔◌, [], IfOk, IfSome, IsTrue, Some, flat_map, length, slice_get};
+ghost use Rattle.std.specs.Prelude.{◌≡◌, ◌<◌, ◌↔◌, [], IfOk, IfSome, IsTrue, Some, bytes_eq, flat_map, is_some, length, position, slice_get};
 ghost use Rattle.std.specs.Option.{option_copied, option_map};
 ghost use Rattle.vlog_tree.specs.Meaning.Ranges.{range_of};
 ghost use Rattle.vlog_tree.specs.Meaning.Uses.{item_uses};
@@ -77,6 +77,15 @@ impl<'a> Nets<'a> {
         ensures { option_copied result ≡ net_of self.now name.now }
     {
         self.entries.get(name)
+    }
+
+    /// The place of a name in the order.
+    pub fn index_of(&self, name: &[u8]) -> Option<usize>
+        ensures place { result ≡ position (λ entry. bytes_eq name.now entry.0) (nets self.now) }
+        ensures within { IfSome result (λ place. place < length (nets self.now)) }
+        ensures found { is_some result ≡ is_some (range_of self.now name.now) }
+    {
+        self.entries.get_index_of(name)
     }
 
     /// All uses of names in the module, in source order.

@@ -1,10 +1,14 @@
 use Rattle.std.proofs.Common.{◌≡◌, ◌<◌, ◌∙◌, ap, sym, ℕ, length, IfSome, Option, option_and_then, slice_get, subst}
 use Rattle.vlog_tree.specs.Meaning.Instances.{module_named}
-use Rattle.hierarchy.specs.Graph.{place_among}
+use Rattle.hierarchy.specs.Graph.{AreDistinct, place_among}
 use Rattle.hierarchy.specs.Indexed.{Topped}
 use Rattle.hierarchy.specs.Places.{place_in}
 use Rattle.hierarchy.proofs.RuleLemmas.{module_is, place_below, place_is}
 use Rattle.hierarchy.proofs.modules.Hierarchy.place_of.Goals as goal
+
+pub returns-clause-distinct : goal.returns-clause-distinct
+returns-clause-distinct c =
+    subst (λ (it : Topped). AreDistinct it.design.modules) c.self.view_is c.self.invariant.distinct
 
 pub returns-clause-place : goal.returns-clause-place
 returns-clause-place c =
