@@ -5,7 +5,9 @@ mod inside;
 mod selects;
 mod shape;
 mod terminals;
+mod whole;
 mod widths;
 
 pub use terminals::note_bad_terminals;
+pub use whole::note_whole;
 pub use widths::note_bad_widths;

@@ -1,0 +1,4 @@
+mod LinkLemmas
+mod NameLemmas
+mod TargetLemmas
+mod UseLemmas

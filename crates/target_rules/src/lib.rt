@@ -1,0 +1,13 @@
+//! The rule on what may be assigned.
+#![tactic(auto)]
+
+mod assignable;
+mod assignment;
+mod connections;
+mod exprs;
+mod lefts;
+mod names;
+mod statements;
+mod targets;
+
+pub use targets::note_bad_targets;
