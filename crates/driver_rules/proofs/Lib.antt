@@ -1,0 +1,9 @@
+mod DoubleLemmas
+mod DrivenLemmas
+mod FormLemmas
+mod InitialLemmas
+mod ListLemmas
+mod RunLemmas
+mod SelectLemmas
+mod SetLemmas
+mod WalkLemmas
