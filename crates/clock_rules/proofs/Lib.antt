@@ -1,0 +1,4 @@
+mod KeptLemmas
+mod ListLemmas
+mod OutputLemmas
+mod TopLemmas

@@ -1,0 +1,11 @@
+use Rattle.std.proofs.Common.{◌≡◌, drop, flat_map, fold}
+use Rattle.hierarchy.specs.Failures.{earlier}
+use Rattle.nets.specs.Nets.{nets}
+use Rattle.clock_rules.specs.Clocks.{bad_clock}
+use Rattle.clock_rules.specs.Ruled.{ruled}
+use Rattle.clock_rules.proofs.clocking.ClockRule.note_names.Given as goal
+
+abbrev pub invariant-loop-i : goal.invariant-loop-i
+invariant-loop-i l = record {
+  same : fold earlier l.found (flat_map (λ entry. bad_clock (ruled l.self) l.nets entry.0) (drop l.i (nets l.nets))) ≡ fold earlier l.initial.found (flat_map (λ entry. bad_clock (ruled l.self) l.nets entry.0) (nets l.nets));
+}
