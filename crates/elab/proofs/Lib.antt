@@ -1,2 +1,5 @@
-pub mod RefusalLemmas
-pub mod TableLemmas
+mod LabelLemmas
+mod NarrowLemmas
+mod PlaceLemmas
+mod PortLemmas
+mod RefusalLemmas

@@ -1,6 +1,7 @@
 -- Rules one after the other.
-use Rattle.std.proofs.Common.{◌≡◌, ◌⊎◌, inl, inr, ℕ, List, [], ◌∷◌, ◌++◌, Option, None, Some, ap, refl, sym, ◌∙◌}
+use Rattle.std.proofs.Common.{◌≡◌, ◌⊎◌, inl, inr, ℕ, List, [], ◌∷◌, ◌++◌, Option, None, Some, Result, Ok, Err, ap, refl, subst, sym, ◌∙◌}
 use Rattle.std.specs.Option.{IsSomeAnd, option_map, option_or}
+use Rattle.std.specs.Result.{IfErr, IsErrAnd}
 use Rattle.hierarchy.specs.Failures.{Failure, earliest, first_refusal}
 use Rattle.hierarchy.specs.Faults.{refusal_of}
 use Rattle.hierarchy.specs.Shown.{shown}
@@ -42,6 +43,11 @@ module _ (rules others : List (ℕ × List Failure)) (result : ElabFault) where
   refused_by (hierarchy.NoTop failure) (inr is) (inr says) = refused_at (2, shown failure) is says
   refused_by (hierarchy.BadInstance failure) (inr is) (inr says) = refused_at (3, shown failure) is says
 
+  -- What refuses before other rules.
+  pub refused_before : Refuses rules result → Refuses (rules ++ others) result
+  refused_before (inl memory) = inl memory
+  refused_before (inr (refused, is, says)) = refused_at refused is says
+
   -- What refuses behind rules that are kept.
   pub refused_later : first_refusal rules ≡ None → Refuses others result → Refuses (rules ++ others) result
   refused_later none (inl memory) = inl memory
@@ -59,3 +65,14 @@ pub first_behind : (rule : ℕ) (failures : List Failure) (rules : List (ℕ × 
     → found ≡ earliest failures → found ≡ None → first_refusal ((rule, failures) ∷ rules) ≡ first_refusal rules
 first_behind rule failures rules found is none =
     ap (λ first. option_or (option_map (λ failure. (rule, failure)) first) (first_refusal rules)) (sym is ∙ none)
+
+-- ---- what a step refuses, the whole refuses
+
+pub passed_on : {X : Type 0} (P : ElabFault → Type 0) (result : Result X ElabFault) (why : ElabFault) → IsErrAnd result (λ e. e ≡ why) → P why → IfErr result P
+passed_on P (Ok x) why is holds = tt
+passed_on P (Err other) why is holds = subst P (sym is) holds
+
+-- by rules that come later
+pub refused_behind : {X : Type 0} (rules others : List (ℕ × List Failure)) (result : Result X ElabFault) → first_refusal rules ≡ None → IfErr result (Refuses others) → IfErr result (Refuses (rules ++ others))
+refused_behind rules others (Ok x) none refused = tt
+refused_behind rules others (Err why) none refused = refused_later rules others why none refused

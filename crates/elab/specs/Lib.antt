@@ -1,4 +1,6 @@
-pub mod Doubles
+pub mod ModuleRules
+pub mod Placed
+pub mod Plans
 pub mod Ports
 pub mod Refusals
-pub mod Targets
+pub mod Settings

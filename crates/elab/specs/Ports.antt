@@ -1,5 +1,5 @@
 -- The rule on the clock, the checker and the reset: E11.
-use Rattle.std.specs.Prelude.{ℕ, ◌==◌, List, [], ◌∷◌, ◌++◌, Bool, not, ◌&&◌, Option, None, Some, bytes_eq, cond, flat_map}
+use Rattle.std.specs.Prelude.{◌==◌, List, [], ◌∷◌, ◌++◌, Bool, not, ◌&&◌, Option, None, Some, bytes_eq, cond, flat_map}
 use Rattle.std.specs.Option.{option_to_list}
 use Rattle.hierarchy.specs.Failures.{Failure, failure}
 use Rattle.vlog_tree.specs.declared.design.Module.{Module}
