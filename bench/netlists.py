@@ -23,8 +23,8 @@ GNU_TIME = "/usr/bin/time"
 # A program that is measured beside it may ask for more memory than a machine has.
 MOST_MEMORY = 8 << 30
 
-# What the program answers to a netlist that it read to the end and that is not of the first form.
-WANTED = (3, "netlist refused: form\n")
+# What the program answers to a netlist that it read to the end, that keeps the rules and that is not of the first form.
+FORM = "netlist refused: form\n"
 
 # Its status where there is no memory, and that of a process that was ended for it.
 OUT_OF_MEMORY = (8, 137)
@@ -116,21 +116,43 @@ def one_letter(_):
     return ",a"
 
 
-# Of each kind what comes first, the i-th of the pieces that follow, and what comes last.
+INSTANCES = "module M (input a);\nendmodule\n" + TOP + "  M u (a)"
+
+
+def driven_wire(i):
+    return f"wire n{i};assign n{i}=a;\n"
+
+
+def wide_wire(i):
+    return f"wire [65535:0] n{i};assign n{i}[{i % 65536}]=a;\n"
+
+
+def wide_assignment(i):
+    return "w<=w;" if i % 2 else f"w[{i % 65536}]<=a;"
+
+
+WIDE_REGISTER = TOP + "  reg [65535:0] w;\n  always @(posedge clk) begin\n"
+
+
+# Of each kind what comes first, the i-th of the pieces that follow, what comes last, and what is answered.
 KINDS = {
-    "many small items": (LIBRARY + TOP, cell, END),
-    "few long expressions": (TOP_WITH_WIRES, long_expression, END),
-    "operators at the limit": (TOP_WITH_WIRES, many_operators, END),
-    "deep nests at the limit": (TOP_WITH_WIRES, deep_nest, END),
-    "one long comment": (TOP + "/*\n", comment_line, "*/\n" + END),
-    "one long name": (LONG_NAMED, named_instance, ";\n" + END),
-    "names of one letter": (TOP + "  wire a", one_letter, ";\n" + END),
+    "many small items": (LIBRARY + TOP, cell, END, FORM),
+    "few long expressions": (TOP_WITH_WIRES, long_expression, END, FORM),
+    "operators at the limit": (TOP_WITH_WIRES, many_operators, END, FORM),
+    "deep nests at the limit": (TOP_WITH_WIRES, deep_nest, END, FORM),
+    "one long comment": (TOP + "/*\n", comment_line, "*/\n" + END, FORM),
+    "one long name": (LONG_NAMED, named_instance, ";\n" + END, FORM),
+    "names of one letter": (TOP + "  wire a", one_letter, ";\n" + END, "netlist refused: E4 top.a\n"),
+    "many instances": (INSTANCES, named_instance, ";\n" + END, FORM),
+    "many names": (TOP, driven_wire, END, FORM),
+    "wide names": (TOP, wide_wire, END, FORM),
+    "many assignments": (WIDE_REGISTER, wide_assignment, "end\n" + END, FORM),
 }
 
 
 def write_netlist(path, kind, size):
     """Writes a netlist of this many bytes: as many pieces as fit, and newlines for the rest."""
-    first, piece, last = KINDS[kind]
+    first, piece, last, _ = KINDS[kind]
     with open(path, "w", encoding="ascii", newline="\n") as file:
         left = size - file.write(first) - len(last)
         for i in itertools.count():
@@ -159,7 +181,7 @@ def run(command, folder):
     return (done.returncode, done.stdout), (seconds, int(note.read_text()) * 1024)
 
 
-def program_cost(program, netlist, folder, runs):
+def program_cost(program, netlist, kind, folder, runs):
     """The least time of several runs, and the greatest peak. None where there was no memory."""
     words = ["minimise", netlist, "no.vcd", "out.vcd", "--top", "top", "--clock", "clk", "--check", "bad"]
     costs = []
@@ -167,8 +189,8 @@ def program_cost(program, netlist, folder, runs):
         answer, cost = run([program, *words], folder)
         if answer[0] in OUT_OF_MEMORY:
             return None
-        if answer != WANTED:
-            sys.exit(f"{program} answered {answer} and not {WANTED}")
+        if answer != (3, KINDS[kind][-1]):
+            sys.exit(f"{program} answered {answer} to {kind}")
         costs.append(cost)
     return min(seconds for seconds, _ in costs), max(peak for _, peak in costs)
 
@@ -204,12 +226,12 @@ def measure(asked, with_iverilog, folder):
         for mib in SIZES:
             size = mib * MIB
             write_netlist(netlist, kind, size)
-            cost = program_cost(asked.program.resolve(), netlist, folder, asked.runs)
+            cost = program_cost(asked.program.resolve(), netlist, kind, folder, asked.runs)
             row = [kind, str(mib), *cost_cells(cost, size)]
             row += [f"{now / then:.1f}" for now, then in zip(cost, smaller)] if cost and smaller else ["", ""]
             smaller = cost
             if asked.before:
-                row += cost_cells(program_cost(asked.before.resolve(), netlist, folder, asked.runs), size)
+                row += cost_cells(program_cost(asked.before.resolve(), netlist, kind, folder, asked.runs), size)
             if with_iverilog:
                 row += iverilog_cells(netlist, size, folder, asked.iverilog_limit)
             print_row(row)

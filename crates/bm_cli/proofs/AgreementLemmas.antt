@@ -1,5 +1,5 @@
 -- What `minimise` wrote, `check` accepts.
-use Rattle.std.proofs.Common.{◌≡◌, ◌≢◌, ◌⊎◌, inl, inr, ℕ, ◌≤◌, ◌<◌, List, Bool, Option, None, Some, Ok, [], take, length, refl, sym, ap, ◌∙◌, subst, arith, unwrap_or}
+use Rattle.std.proofs.Common.{◌≡◌, ◌≢◌, inl, inr, ℕ, ◌≤◌, List, Bool, Option, None, Ok, [], take, length, refl, sym, ap, ◌∙◌, subst, arith, unwrap_or}
 use Rattle.bm_base.specs.ByName.{get-insert_other}
 use Rattle.bm_base.specs.Held.{Held, bytes_under, holding}
 use Rattle.trace_rows.specs.declared.labels.Labels.{Labels}

@@ -1,5 +1,5 @@
 -- The answers of a command exclude each other, but for those of one status.
-use Rattle.std.proofs.Common.{◌≡◌, ◌⊎◌, inl, inr, ◌≤◌, ◌<◌, ℕ, List, Bool, Some, None, Result, Ok, Err, length, refl, subst, sym, ap, ◌∙◌, arith}
+use Rattle.std.proofs.Common.{◌≡◌, inl, inr, ℕ, List, Some, None, Result, Ok, Err, refl, subst, sym, ap, ◌∙◌, arith}
 use Rattle.bm_base.specs.Held.{Held, bytes_under}
 use Rattle.vlog_tree.specs.declared.design.Design.{Design}
 use Rattle.trace_rows.specs.Run.{IsFirstAtLast, Violates}

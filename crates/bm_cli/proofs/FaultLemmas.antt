@@ -15,7 +15,10 @@ use Rattle.vlog_tree.specs.declared.design.Design.{Design}
 use Rattle.vlog_tree.specs.Spelling.{IsOneDesign}
 use Rattle.vlog_tree.specs.Spelling.Modules.{IsDesign}
 use Rattle.first_form.specs.FirstForm.{IsFirstForm}
-use Rattle.bm_cli.specs.Input.{SpellsInProfile, SpellsNetlist}
+use Rattle.elab.specs.Refusals.{rules}
+use Rattle.elab.specs.declared.fault.ElabFault.TheVariants as elab
+use Rattle.hierarchy.specs.Failures.{Failure, first_refusal}
+use Rattle.bm_cli.specs.Input.{SpellsInProfile, SpellsNetlist, setting_with}
 use Rattle.bm_cli.specs.NetlistFaults.{IsNetlistOrFault, IsOneNetlistFault, IsParseFault, IsReason, placeless}
 use Rattle.first_form.specs.TopNames.{TopNames}
 use Rattle.bm_cli.specs.declared.netlist.fault.NetlistFault.{NetlistFault}
@@ -43,7 +46,10 @@ module _ (one_list : IsOneTokenList) (tokens_or_fault : IsTokensOrFault) where
   no_reason one_design names bytes design (fault.Parse (parse.TooDeep at)) netlist why = not_parse_fault bytes design (parse.TooDeep at) (λ is. cc) netlist.text why
   no_reason one_design names bytes design (fault.Parse (parse.Syntax at)) netlist why = not_parse_fault bytes design (parse.Syntax at) (λ is. cc) netlist.text why
   no_reason one_design names bytes design (fault.Parse parse.Memory) netlist why = why
-  no_reason one_design names bytes design fault.Form netlist (other, text, none) =
+  no_reason one_design names bytes design (fault.Rule why) netlist (other, text, (refused, is, says)) =
+      none-some refused
+      (sym netlist.rules ∙ ap (λ design. first_refusal (rules (setting_with names design))) (one_design bytes design other netlist.text.spelled text.spelled) ∙ is)
+  no_reason one_design names bytes design fault.Form netlist (other, text, kept, none) =
       none (subst (IsFirstForm names) (one_design bytes design other netlist.text.spelled text.spelled) netlist.form)
 
   pub netlist_or_fault : IsOneDesign → IsNetlistOrFault
@@ -61,39 +67,48 @@ module _ (one_list : IsOneTokenList) (tokens_or_fault : IsTokensOrFault) where
   abbrev first_reason : List Tok → NetlistFault
   first_reason ts = first_by (outside_at ts) (number_fault_at ts) (too_deep_at ts)
 
-  -- The reason is the lexer's, or the parser's, or the form.
-  abbrev IsOneOf : List ℕ → NetlistFault → Type 0
-  IsOneOf bytes why = ((e : LexFault) × FailsAt bytes e × (placeless why ≡ fault.Lex e))
+  -- the reason of a design, by what refuses it: a rule, or else the form
+  abbrev design_reason : Option (ℕ × Failure) → NetlistFault
+  design_reason (Some refused) = fault.Rule (elab.Rule refused.0 refused.1.module_name refused.1.name)
+  design_reason None = fault.Form
+
+  -- The reason is the lexer's, or the parser's, or that of the design.
+  abbrev IsOneOf : TopNames → List ℕ → NetlistFault → Type 0
+  IsOneOf names bytes why = ((e : LexFault) × FailsAt bytes e × (placeless why ≡ fault.Lex e))
       ⊎ (((ts : List Tok) × AreTokens bytes ts × ((design : Design) → SpellsInProfile bytes design → ⊥) × (placeless why ≡ first_reason ts))
-      ⊎ ((design : Design) × SpellsInProfile bytes design × (placeless why ≡ fault.Form)))
+      ⊎ ((design : Design) × SpellsInProfile bytes design × (placeless why ≡ design_reason (first_refusal (rules (setting_with names design))))))
 
-  parsed : (bytes : List ℕ) (why : NetlistFault) (p : ParseFault) → p ≢ parse.Memory → (h : IsParseFault bytes p) → placeless why ≡ first_reason h.0.list → IsOneOf bytes why
-  parsed bytes why p other h is = inr (inl (h.0.list, h.1, λ design text. not_parse_fault bytes design p other text h, is))
+  parsed : (names : TopNames) (bytes : List ℕ) (why : NetlistFault) (p : ParseFault) → p ≢ parse.Memory → (h : IsParseFault bytes p) → placeless why ≡ first_reason h.0.list → IsOneOf names bytes why
+  parsed names bytes why p other h is = inr (inl (h.0.list, h.1, λ design text. not_parse_fault bytes design p other text h, is))
 
-  one_of : (names : TopNames) (bytes : List ℕ) (why : NetlistFault) → IsReason names bytes why → IsOneOf bytes why
+  one_of : (names : TopNames) (bytes : List ℕ) (why : NetlistFault) → IsReason names bytes why → IsOneOf names bytes why
   one_of names bytes (fault.Lex why) h = inl (why, h, refl)
   one_of names bytes (fault.Parse (parse.Outside at)) h =
-      parsed bytes (fault.Parse (parse.Outside at)) (parse.Outside at) (λ is. cc) h (λ i. first_by (sym h.3 i) (number_fault_at h.0.list) (too_deep_at h.0.list))
+      parsed names bytes (fault.Parse (parse.Outside at)) (parse.Outside at) (λ is. cc) h (λ i. first_by (sym h.3 i) (number_fault_at h.0.list) (too_deep_at h.0.list))
   one_of names bytes (fault.Parse (parse.Number at)) h =
-      parsed bytes (fault.Parse (parse.Number at)) (parse.Number at) (λ is. cc) h (λ i. first_by (sym h.3.0 i) (sym h.3.1 i) (too_deep_at h.0.list))
+      parsed names bytes (fault.Parse (parse.Number at)) (parse.Number at) (λ is. cc) h (λ i. first_by (sym h.3.0 i) (sym h.3.1 i) (too_deep_at h.0.list))
   one_of names bytes (fault.Parse (parse.TooDeep at)) h =
-      parsed bytes (fault.Parse (parse.TooDeep at)) (parse.TooDeep at) (λ is. cc) h (λ i. first_by (sym h.3.0 i) (sym h.3.1 i) (sym h.3.2 i))
+      parsed names bytes (fault.Parse (parse.TooDeep at)) (parse.TooDeep at) (λ is. cc) h (λ i. first_by (sym h.3.0 i) (sym h.3.1 i) (sym h.3.2 i))
   one_of names bytes (fault.Parse (parse.Syntax at)) h =
-      parsed bytes (fault.Parse (parse.Syntax at)) (parse.Syntax at) (λ is. cc) h (λ i. first_by (sym h.3.0.words i) (sym h.3.0.numbers i) (sym h.3.0.nest i))
+      parsed names bytes (fault.Parse (parse.Syntax at)) (parse.Syntax at) (λ is. cc) h (λ i. first_by (sym h.3.0.words i) (sym h.3.0.numbers i) (sym h.3.0.nest i))
   one_of names bytes (fault.Parse parse.Memory) h = absurd h
-  one_of names bytes fault.Form (design, text, none) = inr (inr (design, text, refl))
+  one_of names bytes (fault.Rule (elab.Rule rule module_name name)) (design, text, (refused, is, says)) =
+      inr (inr (design, text, (λ i. fault.Rule (elab.Rule (says.0 i) (says.1 i) (says.2 i))) ∙ ap design_reason (sym is)))
+  one_of names bytes (fault.Rule elab.Memory) (design, text, (refused, is, says)) = absurd says
+  one_of names bytes fault.Form (design, text, kept, none) = inr (inr (design, text, ap design_reason (sym kept)))
 
-  module _ (one_fault : IsOneFault) where
-    same_reason : (bytes : List ℕ) (why other : NetlistFault) → IsOneOf bytes why → IsOneOf bytes other → placeless why ≡ placeless other
-    same_reason bytes why other (inl (e, fails, is)) (inl (f, fails', is')) = is ∙ ap fault.Lex (one_fault bytes e f fails fails') ∙ sym is'
-    same_reason bytes why other (inl (e, fails, is)) (inr (inl (ts, are, none, is'))) = absurd (tokens_or_fault bytes ts e are fails)
-    same_reason bytes why other (inl (e, fails, is)) (inr (inr (design, text, is'))) = absurd (tokens_or_fault bytes text.spelled.tokens e text.spelled.are fails)
-    same_reason bytes why other (inr (inl (ts, are, none, is))) (inl (e, fails, is')) = absurd (tokens_or_fault bytes ts e are fails)
-    same_reason bytes why other (inr (inl (ts, are, none, is))) (inr (inl (us, are', none', is'))) = is ∙ ap first_reason (one_list bytes ts us are are') ∙ sym is'
-    same_reason bytes why other (inr (inl (ts, are, none, is))) (inr (inr (design, text, is'))) = absurd (none design text)
-    same_reason bytes why other (inr (inr (design, text, is))) (inl (e, fails, is')) = absurd (tokens_or_fault bytes text.spelled.tokens e text.spelled.are fails)
-    same_reason bytes why other (inr (inr (design, text, is))) (inr (inl (ts, are, none, is'))) = absurd (none design text)
-    same_reason bytes why other (inr (inr (design, text, is))) (inr (inr (another, text', is'))) = is ∙ sym is'
+  module _ (one_fault : IsOneFault) (one_design : IsOneDesign) where
+    same_reason : (names : TopNames) (bytes : List ℕ) (why other : NetlistFault) → IsOneOf names bytes why → IsOneOf names bytes other → placeless why ≡ placeless other
+    same_reason names bytes why other (inl (e, fails, is)) (inl (f, fails', is')) = is ∙ ap fault.Lex (one_fault bytes e f fails fails') ∙ sym is'
+    same_reason names bytes why other (inl (e, fails, is)) (inr (inl (ts, are, none, is'))) = absurd (tokens_or_fault bytes ts e are fails)
+    same_reason names bytes why other (inl (e, fails, is)) (inr (inr (design, text, is'))) = absurd (tokens_or_fault bytes text.spelled.tokens e text.spelled.are fails)
+    same_reason names bytes why other (inr (inl (ts, are, none, is))) (inl (e, fails, is')) = absurd (tokens_or_fault bytes ts e are fails)
+    same_reason names bytes why other (inr (inl (ts, are, none, is))) (inr (inl (us, are', none', is'))) = is ∙ ap first_reason (one_list bytes ts us are are') ∙ sym is'
+    same_reason names bytes why other (inr (inl (ts, are, none, is))) (inr (inr (design, text, is'))) = absurd (none design text)
+    same_reason names bytes why other (inr (inr (design, text, is))) (inl (e, fails, is')) = absurd (tokens_or_fault bytes text.spelled.tokens e text.spelled.are fails)
+    same_reason names bytes why other (inr (inr (design, text, is))) (inr (inl (ts, are, none, is'))) = absurd (none design text)
+    same_reason names bytes why other (inr (inr (design, text, is))) (inr (inr (another, text', is'))) =
+        is ∙ ap (λ design. design_reason (first_refusal (rules (setting_with names design)))) (one_design bytes design another text.spelled text'.spelled) ∙ sym is'
 
     pub one_netlist_fault : IsOneNetlistFault
-    one_netlist_fault names bytes why other refused refused' = same_reason bytes why other (one_of names bytes why refused.reason) (one_of names bytes other refused'.reason)
+    one_netlist_fault names bytes why other refused refused' = same_reason names bytes why other (one_of names bytes why refused.reason) (one_of names bytes other refused'.reason)

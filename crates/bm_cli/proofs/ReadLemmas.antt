@@ -1,5 +1,5 @@
 -- What a shelf tells of a file is what was read of it.
-use Rattle.std.proofs.Common.{◌≡◌, ◌≤◌, ◌<◌, inl, inr, ℕ, List, Option, Some, None, Result, Ok, Err, length, subst, sym, refl}
+use Rattle.std.proofs.Common.{◌≡◌, ◌≤◌, inl, inr, ℕ, List, Option, Some, None, Result, Ok, Err, length, subst, sym, refl}
 use Rattle.std.specs.Option.{IfSome}
 use Rattle.std.specs.Result.{IfErr, IfOk}
 use Rattle.std.specs.Prelude.{Vec}
@@ -11,7 +11,7 @@ use Rattle.vlog_tree.specs.declared.design.Design.{Design}
 use Rattle.bm_base.specs.declared.size.Size.{Size}
 use Rattle.bm_base.specs.declared.size.Size.TheVariants as size
 use Rattle.bm_files.specs.Files.{IsWithin}
-use Rattle.bm_cli.specs.Input.{IsNetlist, IsOfForm, IsRead, IsTooLarge, SpellsNetlist}
+use Rattle.bm_cli.specs.Input.{IsOfForm, IsRead, IsTooLarge, SpellsNetlist}
 use Rattle.bm_cli.specs.NetlistFaults.{IsNetlistFault, IsReason}
 use Rattle.bm_cli.specs.Reading.{ReadsNetlist, StopsAtNetlist, StopsFilling, StopsFor}
 use Rattle.first_form.specs.TopNames.{TopNames}

@@ -1,9 +1,9 @@
 -- What the reading of both files says, from what its steps say.
-use Rattle.std.proofs.Common.{◌≡◌, ◌⊎◌, inl, inr, ⊎_elim, ◌≤◌, ◌<◌, ℕ, List, Bool, Option, All, Some, None, Result, Ok, Err, sym, ◌∙◌, subst, arith, length}
+use Rattle.std.proofs.Common.{◌≡◌, inl, inr, ⊎_elim, ◌≤◌, ◌<◌, ℕ, List, Option, All, Some, None, Result, Ok, Err, sym, ◌∙◌, subst, arith, length}
 use Rattle.std.specs.Option.{IfSome}
 use Rattle.std.specs.Result.{IfErr, IsErrAnd}
 use Rattle.bm_base.specs.ByName.{cases_name}
-use Rattle.bm_base.specs.Counts.{FaultCounts, RisesOnlyAt, Rose, count_of}
+use Rattle.bm_base.specs.Counts.{FaultCounts, RisesOnlyAt, count_of}
 use Rattle.bm_base.specs.Held.{Held, bytes_under}
 use Rattle.bm_base.specs.Size.{limit_of}
 use Rattle.bm_base.specs.declared.size.Size.{Size}

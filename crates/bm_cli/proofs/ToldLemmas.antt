@@ -1,5 +1,5 @@
 -- What the steps of a command say of its end.
-use Rattle.std.proofs.Common.{◌≡◌, ◌⊎◌, inl, inr, ◌≤◌, ◌<◌, arith, length, nat_lt, if◌then◌else◌, ℕ, List, [], ◌∷◌, Bool, Option, Some, None, Result, Ok, Err, take, refl, sym, ap, ◌∙◌, subst}
+use Rattle.std.proofs.Common.{◌≡◌, ◌⊎◌, inl, inr, ◌≤◌, arith, length, nat_lt, if◌then◌else◌, ℕ, List, [], ◌∷◌, Bool, Option, Some, None, Result, Ok, Err, take, refl, sym, ap, ◌∙◌, subst}
 use Rattle.std.specs.Option.{IfSome, option_map}
 use Rattle.std.proofs.lemmas.Bool.{cases_Bool, cond-false, cond-true, ltb-false}
 use Rattle.std.specs.Result.{IfErr, IfOk}

@@ -1,9 +1,11 @@
 -- The answers, their statuses and their lines.
-use Rattle.std.specs.Prelude.{ℕ, List, [], ◌++◌, codes, decimal}
+use Rattle.std.specs.Prelude.{ℕ, ◌==◌, Bool, ◌||◌, List, [], ◌++◌, codes, cond, decimal}
 use Rattle.bm_base.specs.Size.{limit_of, name_of_size}
 use Rattle.bm_base.specs.declared.size.Size.{Size}
 use Rattle.bm_base.specs.declared.status.Status.{Status}
 use Rattle.bm_base.specs.declared.status.Status.TheVariants as status
+use Rattle.elab.specs.declared.fault.ElabFault.{ElabFault}
+use Rattle.elab.specs.declared.fault.ElabFault.TheVariants as elab
 use Rattle.vcd_header.specs.declared.fault.VcdFault.{VcdFault}
 use Rattle.vcd_header.specs.declared.fault.VcdFault.TheVariants as vcd
 use Rattle.vlog_lexer.specs.declared.fault.LexFault.{LexFault}
@@ -66,9 +68,23 @@ parse_line (parse.TooDeep at) = placed_line (codes "netlist") (codes "P3") at
 parse_line (parse.Syntax at) = placed_line (codes "netlist") (codes "P4") at
 parse_line parse.Memory = []
 
+-- these rules print a name alone
+abbrev pub is_alone : ℕ → Bool
+is_alone rule = rule == 1 || (rule == 2 || rule == 11)
+
+-- the name, behind that of its module and a dot
+abbrev pub printed_name : ℕ → List ℕ → List ℕ → List ℕ
+printed_name rule module_name name = cond (is_alone rule) name (module_name ++ codes "." ++ name)
+
+abbrev pub rule_line : ElabFault → List ℕ
+rule_line (elab.Rule rule module_name name) =
+    codes "netlist refused: E" ++ decimal rule ++ codes " " ++ printed_name rule module_name name ++ codes "\n"
+rule_line elab.Memory = []
+
 abbrev pub fault_line : NetlistFault → List ℕ
 fault_line (fault.Lex why) = lex_line why
 fault_line (fault.Parse why) = parse_line why
+fault_line (fault.Rule why) = rule_line why
 fault_line fault.Form = codes "netlist refused: form\n"
 
 -- the size's name and its limit

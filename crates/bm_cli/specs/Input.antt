@@ -1,5 +1,5 @@
 -- What netlists of the first form and waveforms are, of bytes.
-use Rattle.std.specs.Prelude.{◌≡◌, ◌⊎◌, ◌<◌, ◌≤◌, ℕ, List, Bool, Option, None, Some, Ok, Err, length, nat_lt, if◌then◌else◌}
+use Rattle.std.specs.Prelude.{◌≡◌, ◌⊎◌, ◌<◌, ◌≤◌, ℕ, List, Option, None, Some, Ok, Err, length, nat_lt, if◌then◌else◌}
 use Rattle.bm_base.specs.Size.{limit_of}
 use Rattle.bm_base.specs.declared.size.Size.{Size}
 use Rattle.bm_base.specs.declared.size.Size.TheVariants as size
@@ -9,7 +9,9 @@ use Rattle.vcd_reader.specs.Rows.{Reading}
 use Rattle.vcd_reader.specs.Waveform.{limited, waveform}
 use Rattle.vlog_parse.specs.Refusals.{IsInProfile}
 use Rattle.vlog_tree.specs.declared.design.Design.{Design}
+use Rattle.elab.specs.Refusals.{KeepsRules}
 use Rattle.trace_rows.specs.Machine.{Machine}
+use Rattle.vlog_tree.specs.Meaning.Setting.{Setting}
 use Rattle.vlog_tree.specs.Spelling.{Spells}
 use Rattle.first_form.specs.FirstForm.{IsFirstForm}
 use Rattle.first_form.specs.Labels.{labels_of}
@@ -24,9 +26,25 @@ pub record SpellsInProfile (bytes : List ℕ) (design : Design) : Type 0 where
   pub spelled : Spells bytes design
   pub profile : IsInProfile spelled.tokens
 
--- The bytes spell the design, and it is of the first form.
+-- a design with the names of the command, which has no reset
+abbrev pub setting_with : TopNames → Design → Setting
+setting_with names design = record {
+  design = design;
+  top = names.top;
+  clock = names.clock;
+  check = names.check;
+  reset = None;
+  reset_cycles = 0;
+}
+
+-- The design keeps the rules.
+abbrev pub KeepsRulesWith : TopNames → Design → Type 0
+KeepsRulesWith names design = KeepsRules (setting_with names design)
+
+-- The bytes spell the design, it keeps the rules, and it is of the first form.
 pub record SpellsNetlist (names : TopNames) (bytes : List ℕ) (design : Design) : Type 0 where
   pub text : SpellsInProfile bytes design
+  pub rules : KeepsRulesWith names design
   pub form : IsFirstForm names design
 
 -- how many registers and input bits a machine has
@@ -45,7 +63,7 @@ size_passed registers inputs =
 abbrev pub machine_size_passed : Machine → Option Size
 machine_size_passed machine = size_passed (register_count machine) (input_count machine)
 
--- The bytes are no longer than a netlist may be, and spell a design of the first form.
+-- The bytes are no longer than a netlist may be, and spell a design of the first form that keeps the rules.
 pub record IsOfForm (names : TopNames) (bytes : List ℕ) (design : Design) : Type 0 where
   pub short : length bytes ≤ limit_of size.Netlist
   pub text : SpellsNetlist names bytes design

@@ -10,7 +10,9 @@ use Rattle.vlog_tokens.specs.Tokens.{AreTokens}
 use Rattle.vlog_tokens.specs.Toks.{Lexed}
 use Rattle.vlog_tree.specs.declared.design.Design.{Design}
 use Rattle.first_form.specs.FirstForm.{IsFirstForm}
-use Rattle.bm_cli.specs.Input.{IsOfForm, SpellsInProfile}
+use Rattle.elab.specs.Refusals.{RefusesBy, rules}
+use Rattle.elab.specs.declared.fault.ElabFault.{ElabFault}
+use Rattle.bm_cli.specs.Input.{IsOfForm, KeepsRulesWith, SpellsInProfile, setting_with}
 use Rattle.first_form.specs.TopNames.{TopNames}
 use Rattle.bm_cli.specs.declared.netlist.fault.NetlistFault.{NetlistFault}
 use Rattle.bm_cli.specs.declared.netlist.fault.NetlistFault.TheVariants as fault
@@ -20,13 +22,20 @@ abbrev pub IsParseFault : List ℕ → ParseFault → Type 0
 IsParseFault bytes why =
     (lexed : Lexed) × AreTokens bytes lexed.list × (lexed.source_len ≡ length bytes) × IsCause lexed why
 
+-- The bytes spell a design, and this says the first rule that it breaks, at its first place.
+abbrev pub BreaksRule : TopNames → List ℕ → ElabFault → Type 0
+BreaksRule names bytes why =
+    (design : Design) × SpellsInProfile bytes design × RefusesBy (rules (setting_with names design)) why
+
 -- The reason applies to the bytes, and none before it does: first those of the tokens, then those of the grammar, then
--- the form.
+-- the rules, then the form.
 abbrev pub IsReason : TopNames → List ℕ → NetlistFault → Type 0
 IsReason names bytes (fault.Lex why) = FailsAt bytes why
 IsReason names bytes (fault.Parse parse.Memory) = ⊥
 IsReason names bytes (fault.Parse why) = IsParseFault bytes why
-IsReason names bytes fault.Form = (design : Design) × SpellsInProfile bytes design × (IsFirstForm names design → ⊥)
+IsReason names bytes (fault.Rule why) = BreaksRule names bytes why
+IsReason names bytes fault.Form =
+    (design : Design) × SpellsInProfile bytes design × KeepsRulesWith names design × (IsFirstForm names design → ⊥)
 
 -- The bytes are refused as a netlist for this reason. They are not too long to be read.
 pub record IsNetlistFault (names : TopNames) (bytes : List ℕ) (why : NetlistFault) : Type 0 where

@@ -5,9 +5,13 @@ use Rattle.bm_base.specs.Held.{Held, bytes_under}
 use Rattle.bm_base.specs.Size.{limit_of}
 use Rattle.bm_base.specs.declared.size.Size.{Size}
 use Rattle.bm_base.specs.declared.size.Size.TheVariants as size
+use Rattle.hierarchy.specs.Failures.{Failure}
 use Rattle.trace_rows.specs.declared.labels.Labels.{Labels}
 use Rattle.vcd_reader.specs.Rows.{Reading}
 use Rattle.vcd_reader.specs.Waveform.{limited, waveform}
+use Rattle.elab.specs.Refusals.{RefusesBy}
+use Rattle.elab.specs.declared.fault.ElabFault.{ElabFault}
+use Rattle.elab.specs.declared.fault.ElabFault.TheVariants as elab
 use Rattle.vlog_lexer.specs.declared.fault.LexFault.{LexFault}
 use Rattle.vlog_lexer.specs.declared.fault.LexFault.TheVariants as lex
 use Rattle.vlog_parse.specs.declared.parse_fault.ParseFault.{ParseFault}
@@ -48,6 +52,17 @@ stop_of_lex why = Refused (Netlist (fault.Lex why))
 abbrev pub stop_of_parse : ParseFault → Stop
 stop_of_parse parse.Memory = Memory
 stop_of_parse why = Refused (Netlist (fault.Parse why))
+
+-- how it stops where the design breaks a rule
+abbrev pub stop_of_rule : ElabFault → Stop
+stop_of_rule elab.Memory = Memory
+stop_of_rule why = Refused (Netlist (fault.Rule why))
+
+-- It stops for want of memory, or for what refuses the design by these rules.
+abbrev pub StopsAtRules : List (ℕ × List Failure) → Stop → Type 0
+StopsAtRules rules (Refused (Netlist (fault.Rule why))) = RefusesBy rules why
+StopsAtRules rules Memory = Unit {0}
+StopsAtRules rules other = ⊥
 
 -- It stops for a size that passes its limit.
 abbrev pub IsSizeStop : Option Size → Stop → Type 0

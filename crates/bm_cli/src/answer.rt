@@ -6,6 +6,7 @@ ghost use Rattle.bm_cli.specs.Answer.{cut_line, limit_line};
 use crate::netlist::fault::NetlistFault;
 use crate::waveform::{waveform_line, waveform_status};
 use bm_base::{NoMemory, Size, Status};
+use elab::ElabFault;
 use std::alloc::{AllocError, AllocFailed, Global};
 use vcd_header::VcdFault;
 use vlog_lexer::LexFault;
@@ -99,7 +100,7 @@ impl Refusal {
             Refusal::NoViolation => Ok(String::from_str(alloc, "no violation\n")?.into_bytes()),
             Refusal::NotFirstAtLast => Ok(String::from_str(alloc, "no: N1\n")?.into_bytes()),
             Refusal::Cut { cycle } => Ok(cut_line(alloc, *cycle)?.into_bytes()),
-            Refusal::Netlist(fault) => Ok(fault.line(alloc)?.into_bytes()),
+            Refusal::Netlist(fault) => fault.line(alloc),
             Refusal::Limit(what) => Ok(limit_line(alloc, *what)?.into_bytes()),
             Refusal::Waveform(fault) => waveform_line(alloc, fault),
         }
@@ -191,6 +192,20 @@ impl From<ParseFault> for Stop {
         match fault {
             ParseFault::Memory => Stop::Memory,
             _ => Stop::Refused(Refusal::Netlist(NetlistFault::Parse(fault))),
+        }
+    }
+}
+
+impl From<ElabFault> for Stop {
+    ghost use Rattle.std.specs.Prelude.{◌≡◌};
+    ghost use Rattle.bm_cli.specs.Reading.{stop_of_rule};
+
+    ghost from_gives = { λ fault stop. stop ≡ stop_of_rule fault };
+
+    fn from(fault: ElabFault) -> Stop {
+        match fault {
+            ElabFault::Memory => Stop::Memory,
+            _ => Stop::Refused(Refusal::Netlist(NetlistFault::Rule(fault))),
         }
     }
 }

@@ -16,6 +16,7 @@ pub fn one_netlist_fault()
     one_token_list();
     one_fault();
     tokens_or_fault();
+    bytes_spell_one_design();
 }
 
 /// A netlist of the first form is not refused: no reason applies to it.

@@ -9,7 +9,7 @@ use crate::memory::in_memory;
 use crate::rows::said_of_rows;
 use crate::stage::Stage;
 use crate::tokens::said_of_tokens;
-use crate::tree::{said_of_design, said_of_scrap, said_of_tree};
+use crate::tree::{said_of_design, said_of_scrap, said_of_tree, said_of_widths};
 use crate::trouble::Trouble;
 use std::alloc::{AllocError, Global};
 use std::rt;
@@ -92,6 +92,7 @@ fn says(alloc: Global, asked: &Asked, files: &Files) -> Result<String, Trouble> 
     match asked {
         Asked::Deed(_) => Err(Trouble::Command),
         Asked::Tree(name) => says_tree(alloc, files, name),
+        Asked::Widths(name) => says_widths(alloc, files, name),
         Asked::Rows(name, signals) => says_rows(alloc, files, name, signals),
         Asked::Tokens(text) => says_tokens(alloc, text),
         Asked::Design(text) => says_design(alloc, text),
@@ -102,6 +103,11 @@ fn says(alloc: Global, asked: &Asked, files: &Files) -> Result<String, Trouble> 
 fn says_tree(alloc: Global, files: &Files, name: &str) -> Result<String, Trouble> {
     let source = files.get(name).ok_or(Trouble::File)?;
     Ok(said_of_tree(alloc, source)?)
+}
+
+fn says_widths(alloc: Global, files: &Files, name: &str) -> Result<String, Trouble> {
+    let source = files.get(name).ok_or(Trouble::File)?;
+    Ok(said_of_widths(alloc, source)?)
 }
 
 fn says_rows(alloc: Global, files: &Files, name: &str, signals: &str) -> Result<String, Trouble> {

@@ -9,6 +9,8 @@ pub enum Asked {
     Deed(Deed),
     /// The tree of a file.
     Tree(String),
+    /// The width of each expression that a file assigns.
+    Widths(String),
     /// The rows of a file of this name, of these signals.
     Rows(String, String),
     /// The tokens of a text.
@@ -28,7 +30,9 @@ impl Asked {
             Asked::Scrap(scrap, text) => {
                 Ok(Asked::Scrap(*scrap, text.replace(alloc, "WORD", word)?))
             }
-            Asked::Deed(_) | Asked::Tree(_) | Asked::Rows(..) => Err(Trouble::Again),
+            Asked::Deed(_) | Asked::Tree(_) | Asked::Widths(_) | Asked::Rows(..) => {
+                Err(Trouble::Again)
+            }
         }
     }
 }

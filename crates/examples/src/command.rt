@@ -70,6 +70,7 @@ fn read_asked(alloc: Global, verb: &str, rest: &str) -> Result<Asked, Trouble> {
         "slice" => Ok(Asked::Deed(read_slice(alloc, rest)?)),
         "append" => Ok(Asked::Deed(read_append(alloc, rest)?)),
         "tree" => Ok(Asked::Tree(text(alloc, rest)?)),
+        "widths" => Ok(Asked::Widths(text(alloc, rest)?)),
         "rows" => read_rows(alloc, rest),
         "tokens" => Ok(Asked::Tokens(text(alloc, rest)?)),
         "design" => Ok(Asked::Design(text(alloc, rest)?)),

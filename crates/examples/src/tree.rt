@@ -12,7 +12,7 @@ use std::alloc::{AllocError, Global};
 use thiserror::Error;
 use vlog_lexer::{LexFault, lex};
 use vlog_parse::{ParseFault, parse};
-use vlog_tree::{Design, Expr, Item};
+use vlog_tree::{Design, Expr, Item, Module, width};
 
 // Why a text has no tree.
 #[derive(Clone, Copy, Debug, PartialEq, Eq, Error)]
@@ -41,6 +41,14 @@ pub fn said_of_tree(alloc: Global, source: &[u8]) -> Result<String, AllocError> 
     }
 }
 
+/// The width of each expression that a netlist assigns continuously, or why it has no tree.
+pub fn said_of_widths(alloc: Global, source: &[u8]) -> Result<String, AllocError> {
+    match design_of(alloc, source) {
+        Ok(design) => widths_text(alloc, &design),
+        Err(fault) => format!(in alloc; "{fault}\n"),
+    }
+}
+
 /// That a netlist is a design, or why it is none.
 pub fn said_of_design(alloc: Global, source: &[u8]) -> Result<String, AllocError> {
     match design_of(alloc, source) {
@@ -61,6 +69,30 @@ fn design_text(alloc: Global, design: &Design) -> Result<String, AllocError> {
     let mut text = String::new(alloc);
     put_design(&mut text, design)?;
     Ok(text)
+}
+
+fn widths_text(alloc: Global, design: &Design) -> Result<String, AllocError> {
+    let mut text = String::new(alloc);
+    for module in design.modules.as_slice() {
+        put_widths(&mut text, module)?;
+    }
+    Ok(text)
+}
+
+fn put_widths(text: &mut String, module: &Module) -> Result<(), AllocError> {
+    for item in module.items.as_slice() {
+        if let Item::Assign { right, .. } = item {
+            put_width(text, width(module, right))?;
+        }
+    }
+    Ok(())
+}
+
+fn put_width(text: &mut String, width: Option<u32>) -> Result<(), AllocError> {
+    match width {
+        Some(width) => writeln!(text, "{width}"),
+        None => text.push_str("none\n"),
+    }
 }
 
 fn scrap_text(alloc: Global, design: &Design) -> Result<String, AllocError> {

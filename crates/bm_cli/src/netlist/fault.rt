@@ -2,7 +2,10 @@ ghost use Rattle.std.specs.Prelude.{◌≡◌, IfOk};
 ghost use Rattle.std.specs.String.{string_bytes};
 ghost use Rattle.bm_cli.specs.Answer.{fault_line, lex_line, parse_line};
 
+use crate::netlist::rule::rule_line;
 use crate::placed::placed_line;
+use bm_base::NoMemory;
+use elab::ElabFault;
 use std::alloc::{AllocError, Global};
 use vlog_lexer::LexFault;
 use vlog_parse::ParseFault;
@@ -14,19 +17,24 @@ pub enum NetlistFault {
     Lex(LexFault),
     /// The tokens give no design.
     Parse(ParseFault),
+    /// The design breaks a rule.
+    Rule(ElabFault),
     /// The design is not of the first form.
     Form,
 }
 
 impl NetlistFault {
     /// The line that says so, with its newline.
-    pub fn line(&self, alloc: Global) -> Result<String, AllocError>
-        ensures { IfOk result (λ line. string_bytes line ≡ fault_line self.now) }
+    pub fn line(&self, alloc: Global) -> Result<Vec<u8>, NoMemory>
+        ensures { IfOk result (λ line. line.items ≡ fault_line self.now) }
     {
         match self {
-            NetlistFault::Lex(fault) => lex_line(alloc, *fault),
-            NetlistFault::Parse(fault) => parse_line(alloc, *fault),
-            NetlistFault::Form => String::from_str(alloc, "netlist refused: form\n"),
+            NetlistFault::Lex(fault) => Ok(lex_line(alloc, *fault)?.into_bytes()),
+            NetlistFault::Parse(fault) => Ok(parse_line(alloc, *fault)?.into_bytes()),
+            NetlistFault::Rule(fault) => rule_line(alloc, fault),
+            NetlistFault::Form => {
+                Ok(String::from_str(alloc, "netlist refused: form\n")?.into_bytes())
+            }
         }
     }
 }

@@ -1,7 +1,6 @@
-use Rattle.std.proofs.Common.{◌≡◌, length, subst}
-use Rattle.std.specs.Prelude.{option_copied}
+use Rattle.std.proofs.Common.{subst}
 use Rattle.bm_cli.specs.Asked.{given_inputs}
-use Rattle.bm_cli.specs.Reading.{ReadsWaveform, StopsAtFiles, StopsAtWaveform, reading_of}
+use Rattle.bm_cli.specs.Reading.{ReadsWaveform, StopsAtFiles, StopsAtWaveform}
 use Rattle.bm_cli.proofs.ReadingLemmas.{both_read, if_passed_on, trace_wide, waveform_stopped}
 use Rattle.bm_cli.proofs.inputs.read_inputs.Goals as goal
 
