@@ -1,4 +1,3 @@
 mod KeptLemmas
 mod ListLemmas
-mod OutputLemmas
 mod TopLemmas

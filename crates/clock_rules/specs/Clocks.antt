@@ -4,7 +4,7 @@ use Rattle.std.specs.List.{list_any}
 use Rattle.std.specs.Option.{option_to_list}
 use Rattle.hierarchy.specs.Failures.{Failure, failure}
 use Rattle.hierarchy.specs.Reach.{reached}
-use Rattle.nets.specs.Nets.{nets, place_of_name}
+use Rattle.nets.specs.Nets.{is_one_bit, nets, place_of_name}
 use Rattle.vlog_tree.specs.declared.design.Design.{Design}
 use Rattle.vlog_tree.specs.declared.design.Module.{Module}
 use Rattle.vlog_tree.specs.declared.item.Item.{Item}
@@ -15,7 +15,7 @@ use Rattle.vlog_tree.specs.declared.stmt.Stmt.TheOpen.{Stmt-F}
 use Rattle.vlog_tree.specs.Meaning.Instances.{Child, Connection, child_of, connected, connections}
 use Rattle.vlog_tree.specs.Meaning.Names.{is_input, is_output, is_register}
 use Rattle.vlog_tree.specs.Meaning.Uses.{Text, Use, expr_uses}
-use Rattle.clock_sets.specs.Passing.{is_one_bit, plain_assign, plain_name, signal}
+use Rattle.clock_sets.specs.Passing.{plain_assign, plain_name, signal}
 use Rattle.clock_sets.specs.Sets.{Clocked, is_clock_use, is_clocked}
 
 -- ---- E12: what a clock use may be

@@ -15,13 +15,12 @@ ghost use Rattle.clock_rules.specs.Kept.{child_of_links, has_left};
 ghost use Rattle.clock_rules.specs.Told.{Tells, can_be_by, is_other_by, is_reached};
 
 use crate::assigned::Assigned;
-use crate::noting::note_if;
 use crate::port_lists::{ClockPorts, ports_of};
 use crate::top::top_name;
 use bm_base::{Name, NoMemory, Range};
 use clock_sets::ClockUses;
 use design_nets::DesignNets;
-use hierarchy::Earliest;
+use hierarchy::{Earliest, note_if};
 use nets::{Net, Nets};
 use sqlite_items::Items;
 use std::alloc::Global;

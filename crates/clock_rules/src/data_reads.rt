@@ -13,12 +13,11 @@ ghost use Rattle.clock_rules.specs.Clocks.{bad_output, bad_read, clock_as_data, 
 ghost use Rattle.clock_rules.specs.Kept.{child_of_links};
 ghost use Rattle.clock_rules.specs.Told.{is_reached};
 
-use crate::noting::note_if;
 use crate::reads::{note_expr, note_exprs, note_stmt};
 use bm_base::NoMemory;
 use clock_sets::{ClockedNames, plain_left, plain_name};
 use design_nets::{DesignNets, port_of};
-use hierarchy::Earliest;
+use hierarchy::{Earliest, note_if};
 use nets::{Net, Nets};
 use std::alloc::Global;
 use vlog_tree::{Expr, Item, Left, Link};
@@ -221,17 +220,8 @@ fn note_connection<'a>(
     ensures { found.new ≡ fold earlier found.old (flat_map (bad_read names.now nets.now)
         (cond (is_output inner.now port.now || is_some (plain_name nets.now expr.now)) [] (expr_uses expr.now))) }
 {
-    let passes = is_output(inner, port) || plain_name(nets, expr).is_some();
+    let passes = inner.is_output(port) || plain_name(nets, expr).is_some();
     if !passes {
         note_expr(names, nets, expr, found);
-    }
-}
-
-fn is_output(nets: &Nets, name: &[u8]) -> bool
-    ensures { result ≡ is_output nets.now name.now }
-{
-    match nets.find(name) {
-        Some(net) => net.is_output(),
-        None => false,
     }
 }

@@ -5,7 +5,6 @@ mod assigned;
 mod clocking;
 mod connected;
 mod data_reads;
-mod noting;
 mod port_lists;
 mod reads;
 mod top;

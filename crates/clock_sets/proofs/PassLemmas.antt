@@ -4,7 +4,7 @@ use Rattle.std.specs.List.{find, list_any}
 use Rattle.std.specs.Map.{lookup}
 use Rattle.std.specs.Cmp.Lexicographic.{bytes_decides}
 use Rattle.std.specs.Option.{option_map, option_or, option_to_list, unwrap_or}
-use Rattle.std.proofs.lemmas.Bool.{false≢true, false_from_ne_true, or_left, or_right}
+use Rattle.std.proofs.lemmas.Bool.{false≢true, or_left, or_right}
 use Rattle.std.proofs.lemmas.List.Folds.{list_any-append}
 use Rattle.std.proofs.lemmas.List.Elements.{All-append, All-cons, All-filter, All-head, All-nil, All-tail, All-weaker}
 use Rattle.bm_base.specs.declared.range.Range.{Range}
@@ -22,7 +22,7 @@ use Rattle.vlog_tree.specs.Meaning.Keys.{bit_count}
 use Rattle.vlog_tree.specs.Meaning.Names.{declares, declares_input, is_input}
 use Rattle.vlog_tree.specs.Meaning.Ranges.{range_of, span}
 use Rattle.vlog_tree.specs.Meaning.Uses.{Text}
-use Rattle.nets.specs.Nets.{net_of, nets}
+use Rattle.nets.specs.Nets.{nets}
 use Rattle.hierarchy.specs.Reach.{reached, reaches}
 use Rattle.clock_sets.specs.Passing.{Pass, assign_pass, both, child_passes, connection_pass, one_bit, pass, passes, passes_in, plain_left, plain_name, same_signal, signal, signals}
 use Rattle.clock_sets.proofs.AnyLemmas.{any_map}
@@ -60,16 +60,6 @@ some_first f (Some x) p e = refl
 
 pub input_ranged : (m : Module) (name : Text) → is_input m name ≡ true → is_some (range_of m name) ≡ true
 input_ranged m name e = some_first _ (find (declares name) m.items) _ (input_declared name m.items e)
-
-some_mapped : {X Y : Type 0} (f : X → Y) (o : Option X) → is_some (option_map f o) ≡ is_some o
-some_mapped f None = refl
-some_mapped f (Some x) = refl
-
--- A name of which the module says nothing is no input.
-pub no_input : (m : Module) (name : Text) → None ≡ net_of m name → false ≡ is_input m name
-no_input m name none =
-    sym (false_from_ne_true (is_input m name) (λ e.
-    false≢true (ap is_some none ∙ some_mapped _ (range_of m name) ∙ input_ranged m name e)))
 
 -- ---- so has a name of one bit
 

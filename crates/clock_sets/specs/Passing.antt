@@ -1,5 +1,5 @@
 -- How a clock passes from one name to another: by plain assigns, and by plain connections to input ports.
-use Rattle.std.specs.Prelude.{ℕ, ◌+◌, ◌==◌, zero, suc, Bool, ◌&&◌, List, [], Option, None, Some, bytes_eq, cond, flat_map, length, map}
+use Rattle.std.specs.Prelude.{ℕ, ◌+◌, zero, suc, Bool, ◌&&◌, List, [], Option, None, Some, bytes_eq, cond, flat_map, length, map}
 use Rattle.std.specs.List.{list_any, range_with_len}
 use Rattle.std.specs.Option.{option_to_list}
 use Rattle.vlog_tree.specs.declared.design.Design.{Design}
@@ -11,11 +11,10 @@ use Rattle.vlog_tree.specs.declared.item.Item.TheVariants as item
 use Rattle.vlog_tree.specs.declared.left.Left.{Left}
 use Rattle.vlog_tree.specs.declared.left.Left.TheVariants as left
 use Rattle.vlog_tree.specs.Meaning.Instances.{Child, Connection, child_of, connections}
-use Rattle.vlog_tree.specs.Meaning.Keys.{bit_count}
 use Rattle.vlog_tree.specs.Meaning.Names.{is_input}
 use Rattle.vlog_tree.specs.Meaning.Uses.{Text}
 use Rattle.hierarchy.specs.Reach.{reached}
-use Rattle.nets.specs.Nets.{nets}
+use Rattle.nets.specs.Nets.{is_one_bit, nets}
 
 -- a name of a module
 pub record Signal : Type 0 where
@@ -29,9 +28,6 @@ abbrev pub same_signal : Signal → Signal → Bool
 same_signal one other = bytes_eq one.module_name other.module_name && bytes_eq one.name other.name
 
 -- ---- plain names, assigns and connections
-
-abbrev pub is_one_bit : Module → Text → Bool
-is_one_bit m name = bit_count m name == 1
 
 abbrev pub one_bit : Module → Text → Option Text
 one_bit m name = cond (is_one_bit m name) (Some name) None

@@ -155,7 +155,7 @@ fn add_connection(
     ensures { OnOk result (steps.new ≡ fold (with_pass (number_of numbers.now.design.modules)) steps.old
         (connection_pass nets.now (instance_of inner.now []) (record { port = port.now; expression = expr.now }))) }
 {
-    if is_input(inner, port) {
+    if inner.is_input(port) {
         add_plain(numbers, nets, inner, port, expr, steps)
     } else {
         Ok(())
@@ -181,14 +181,5 @@ fn add_plain(
             numbers.number_of(inner.module().name.bytes(), port),
         ),
         None => Ok(()),
-    }
-}
-
-fn is_input(nets: &Nets, name: &[u8]) -> bool
-    ensures { result ≡ is_input nets.now name.now }
-{
-    match nets.find(name) {
-        Some(net) => net.is_input(),
-        None => false,
     }
 }

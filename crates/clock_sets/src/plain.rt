@@ -1,7 +1,7 @@
 //! Left sides and expressions that are whole names of one bit.
 ghost use Rattle.std.specs.Prelude.{◌≡◌, cond, Some, None};
 ghost use Rattle.std.specs.Option.{option_map};
-ghost use Rattle.clock_sets.specs.Passing.{is_one_bit, one_bit, plain_left, plain_name};
+ghost use Rattle.clock_sets.specs.Passing.{one_bit, plain_left, plain_name};
 
 use bm_base::Name;
 use nets::Nets;
@@ -30,18 +30,9 @@ pub fn plain_name<'a>(nets: &Nets<'a>, expr: &'a Expr) -> Option<&'a [u8]>
 fn one_bit<'a>(nets: &Nets<'a>, name: &'a Name) -> Option<&'a [u8]>
     ensures { option_map (λ name. name.now) result ≡ one_bit nets.now name.now }
 {
-    if is_one_bit(nets, name) {
+    if nets.is_one_bit(name.bytes()) {
         Some(name.bytes())
     } else {
         None
-    }
-}
-
-fn is_one_bit(nets: &Nets, name: &Name) -> bool
-    ensures { result ≡ is_one_bit nets.now name.now }
-{
-    match nets.get(name) {
-        Some(net) => net.range().left == net.range().right,
-        None => false,
     }
 }

@@ -1,21 +1,16 @@
 -- Selects, and the numbers of their names.
-use Rattle.std.proofs.Common.{ℕ, ◌+◌, ◌<◌, ◌≡◌, ◌++◌, ◌||◌, List, [], ◌∷◌, Bool, true, false, cond, Option, Some, None, IfSome, append_assoc, drop, flat_map, Result, Ok, Err, OnOk, get_or, length, map, slice_get, refl, ap, sym, subst, ◌∙◌}
+use Rattle.std.proofs.Common.{ℕ, ◌+◌, ◌<◌, ◌≡◌, ◌++◌, List, [], ◌∷◌, true, Option, Some, None, IfSome, append_assoc, drop, flat_map, Result, Ok, Err, OnOk, get_or, length, map, slice_get, refl, ap, sym, subst, ◌∙◌}
 use Rattle.std.proofs.lemmas.Option.{get_or_from_slice_get}
 use Rattle.std.proofs.lemmas.List.Elements.{All-nil}
 use Rattle.std.proofs.lemmas.List.{drop_more}
 use Rattle.std.proofs.lemmas.List.Quantifiers.{position-Some}
-use Rattle.std.specs.List.{find, list_any}
-use Rattle.std.specs.Option.{option_map, option_or}
+use Rattle.std.specs.Option.{option_map}
 use Rattle.std.specs.Str.{bytes_eq}
 use Rattle.std.proofs.lemmas.Slice.Eq.{bytes_eq-Decides}
 use Rattle.bm_base.specs.declared.range.Range.{Range}
 use Rattle.nets.specs.Nets.{Net, net_of, net_with, nets}
 use Rattle.vlog_tree.specs.declared.design.Module.{Module}
-use Rattle.vlog_tree.specs.declared.item.Dir.TheVariants.{Input, Output}
-use Rattle.vlog_tree.specs.declared.item.Item.{Item}
-use Rattle.vlog_tree.specs.declared.item.Item.TheVariants as item
-use Rattle.vlog_tree.specs.Meaning.Names.{declares, declares_output, is_implicit, is_output}
-use Rattle.vlog_tree.specs.Meaning.Ranges.{declared_range, range_of, scalar}
+use Rattle.vlog_tree.specs.Meaning.Ranges.{range_of}
 use Rattle.vlog_tree.specs.Meaning.Uses.{Text}
 use Rattle.driver_rules.specs.declared.run.Run.{Run}
 use Rattle.driver_rules.specs.declared.select.Select.{Select}
@@ -49,36 +44,6 @@ numbered_by m name other number same is = ap (number_of m) (sym same) ∙ sym is
 pub run_of : (m : Module) (name other : Text) (run : Option Run) (bits : Run) → IfSome run (IsRunOf m name) → run ≡ Some bits → other ≡ name → IsRunOf m other bits
 run_of m name other run bits holds is same =
     subst (λ text. IsRunOf m text bits) (sym same) (subst (λ (one : Option Run). IfSome one (IsRunOf m name)) is holds)
-
--- ---- outputs
-
-output_declared : (name : Text) (i : Item) → declares name i ≡ false → declares_output name i ≡ false
-output_declared name (item.Decl at None kind range other) is = refl
-output_declared name (item.Decl at (Some Input) kind range other) is = refl
-output_declared name (item.Decl at (Some Output) kind range other) is = is
-output_declared name (item.Assign at left right) is = refl
-output_declared name (item.Gate at kind own outs ins) is = refl
-output_declared name (item.Instance at inner own links) is = refl
-output_declared name (item.Always at clock body) is = refl
-output_declared name (item.Initial at own value) is = refl
-
-no_output : (name : Text) (items : List Item) → find (declares name) items ≡ None → list_any (declares_output name) items ≡ false
-no_output name [] is = refl
-no_output name (one ∷ items) is = by (declares name one) refl is (no_output name items)
-  where
-    by : (b : Bool) → declares name one ≡ b → cond b (Some one) (find (declares name) items) ≡ None
-        → (find (declares name) items ≡ None → list_any (declares_output name) items ≡ false)
-        → (declares_output name one || list_any (declares_output name) items) ≡ false
-    by true test is rest = absurd (cc)
-    by false test is rest = ap (λ b. b || list_any (declares_output name) items) (output_declared name one test) ∙ rest is
-
--- a name of which nothing is said is no output
-pub unsaid_output : (m : Module) (name : Text) → None ≡ net_of m name → false ≡ is_output m name
-unsaid_output m name none = sym (no_output name m.items (by (find (declares name) m.items) (cond (is_implicit m name) (Some scalar) None) (sym none)))
-  where
-    by : (found : Option Item) (other : Option Range) → option_map (net_with m name) (option_or (option_map declared_range found) other) ≡ None → found ≡ None
-    by None other is = refl
-    by (Some one) other is = absurd (cc)
 
 -- ---- steps
 

@@ -10,11 +10,10 @@ ghost use Rattle.driver_rules.specs.Selects.{AreNumbered, IsRunOf, assigned, sho
 
 use crate::bit_set::BitSet;
 use crate::groups::groups_of;
-use crate::noting::note_if;
 use crate::select::Select;
 use bm_base::NoMemory;
 use design_nets::DesignNets;
-use hierarchy::Earliest;
+use hierarchy::{Earliest, note_if};
 use nets::Nets;
 use sqlite_items::Items;
 use std::alloc::Global;

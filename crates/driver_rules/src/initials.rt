@@ -5,9 +5,8 @@ ghost use Rattle.vlog_tree.specs.Meaning.Uses.{Text};
 ghost use Rattle.driver_rules.specs.Begun.{begun_in, second_by};
 ghost use Rattle.driver_rules.specs.Doubles.{begins, second_initials_after};
 
-use crate::noting::note_if;
 use bm_base::{Name, NoMemory};
-use hierarchy::Earliest;
+use hierarchy::{Earliest, note_if};
 use std::alloc::Global;
 use std::collections::HashSet;
 use vlog_tree::{Item, Module};

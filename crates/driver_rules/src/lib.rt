@@ -7,7 +7,6 @@ mod doubles;
 mod drivers;
 mod groups;
 mod initials;
-mod noting;
 mod outputs;
 mod run;
 mod select;

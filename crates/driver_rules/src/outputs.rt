@@ -74,22 +74,12 @@ fn add_at_port<'a>(
 {
     match &link.expr {
         Some(expr) => {
-            if is_output(inner, port) {
+            if inner.is_output(port) {
                 add_target(selects, nets, expr)
             } else {
                 Ok(())
             }
         }
         None => Ok(()),
-    }
-}
-
-// Whether some declaration calls the name an output.
-fn is_output(nets: &Nets<'_>, name: &[u8]) -> bool
-    ensures { result ≡ is_output nets.now name.now }
-{
-    match nets.find(name) {
-        Some(net) => net.is_output(),
-        None => false,
     }
 }

@@ -9,7 +9,7 @@ ghost use Rattle.driver_rules.specs.Selects.{AreNumbered, IsRunOf, bits_of, numb
 use crate::run::Run;
 use crate::select::Select;
 use bm_base::{Name, NoMemory, Range};
-use nets::Nets;
+use nets::{Nets, place_of};
 use sqlite_items::Items;
 
 /// Adds the bits of a name.
@@ -166,19 +166,6 @@ fn between(net: usize, high: usize, low: usize) -> Option<Run>
             first: low,
             last: high,
         })
-    } else {
-        None
-    }
-}
-
-// The place of an index, from the right end, where the range has it.
-fn place_of(range: Range, index: u32) -> Option<u32>
-    ensures { result ≡ place_of range index }
-{
-    if range.right <= index && index <= range.left {
-        Some(index - range.right)
-    } else if range.left <= index && index <= range.right {
-        Some(range.right - index)
     } else {
         None
     }

@@ -14,7 +14,7 @@ use Rattle.vlog_tree.specs.Meaning.Ranges.{range_of, span}
 use Rattle.vlog_tree.specs.Meaning.Uses.{Text}
 use Rattle.elab.specs.Placed.{label_of_net, label_unless_clock}
 use Rattle.elab.specs.Plans.{port_label, port_labels}
-use Rattle.elab.proofs.PortLemmas.{no_input}
+use Rattle.nets.proofs.ToldLemmas.{no_input}
 
 module _ (m : Module) (clock : Text) where
   abbrev entry_for : Text → Option (Text × Net)

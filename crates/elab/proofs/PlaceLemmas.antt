@@ -23,7 +23,7 @@ use Rattle.elab.specs.Placed.{bits_before, labels_with, reset_in, setup_with}
 use Rattle.elab.specs.Plans.{IsPlan, input_place, port_label, port_labels, reset_at, reset_of, setup_of}
 use Rattle.elab.specs.Settings.{setting_of}
 use Rattle.elab.specs.declared.names.Names.{Names}
-use Rattle.elab.proofs.PortLemmas.{no_input}
+use Rattle.nets.proofs.ToldLemmas.{no_input}
 
 bytes_sym : (xs ys : Text) → bytes_eq xs ys ≡ bytes_eq ys xs
 bytes_sym xs ys = by (bytes_eq xs ys) (bytes_eq ys xs) refl refl

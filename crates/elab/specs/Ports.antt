@@ -1,16 +1,13 @@
 -- The rule on the clock, the checker and the reset: E11.
-use Rattle.std.specs.Prelude.{◌==◌, List, [], ◌∷◌, ◌++◌, Bool, not, ◌&&◌, Option, None, Some, bytes_eq, cond, flat_map}
+use Rattle.std.specs.Prelude.{List, [], ◌∷◌, ◌++◌, Bool, not, ◌&&◌, Option, None, Some, bytes_eq, cond, flat_map}
 use Rattle.std.specs.Option.{option_to_list}
 use Rattle.hierarchy.specs.Failures.{Failure, failure}
 use Rattle.vlog_tree.specs.declared.design.Module.{Module}
 use Rattle.vlog_tree.specs.Meaning.Instances.{top_module}
-use Rattle.vlog_tree.specs.Meaning.Keys.{bit_count}
+use Rattle.nets.specs.Nets.{is_one_bit}
 use Rattle.vlog_tree.specs.Meaning.Names.{is_input, is_output}
 use Rattle.vlog_tree.specs.Meaning.Setting.{Setting}
 use Rattle.vlog_tree.specs.Meaning.Uses.{Text}
-
-abbrev pub is_one_bit : Module → Text → Bool
-is_one_bit m name = bit_count m name == 1
 
 -- The name alone is printed.
 abbrev pub unless_fit : Bool → Text → List Failure

@@ -4,7 +4,8 @@ ghost use Rattle.std.specs.Prelude.{◌≡◌, ◌&&◌, bytes_eq, fold, not};
 ghost use Rattle.hierarchy.specs.Failures.{earlier, earliest};
 ghost use Rattle.vlog_tree.specs.declared.design.Design.{Design};
 ghost use Rattle.vlog_tree.specs.Meaning.Names.{is_input, is_output};
-ghost use Rattle.elab.specs.Ports.{bad_ports_of, bad_reset, bad_setting, is_one_bit, unless_fit};
+ghost use Rattle.elab.specs.Ports.{bad_ports_of, bad_reset, bad_setting, unless_fit};
+ghost use Rattle.nets.specs.Nets.{is_one_bit};
 ghost use Rattle.elab.specs.Settings.{setting_of};
 
 use crate::names::Names;
@@ -50,26 +51,20 @@ fn note_unless<'a>(is_fit: bool, name: &'a Name, found: &mut Earliest<'a>)
 fn is_input_bit(top: &Nets, name: &Name) -> bool
     ensures { result ≡ (is_input top.now name.now && is_one_bit top.now name.now) }
 {
-    match top.get(name) {
-        Some(net) => net.is_input() && net.width() == 1,
-        None => false,
-    }
+    let name = name.bytes();
+    top.is_input(name) && top.is_one_bit(name)
 }
 
 fn is_output_bit(top: &Nets, name: &Name) -> bool
     ensures { result ≡ (is_output top.now name.now && is_one_bit top.now name.now) }
 {
-    match top.get(name) {
-        Some(net) => net.is_output() && net.width() == 1,
-        None => false,
-    }
+    let name = name.bytes();
+    top.is_output(name) && top.is_one_bit(name)
 }
 
 fn is_reset_bit(top: &Nets, name: &Name, clock: &Name) -> bool
     ensures { result ≡ (is_input top.now name.now && (is_one_bit top.now name.now && not (bytes_eq name.now clock.now))) }
 {
-    match top.get(name) {
-        Some(net) => net.is_input() && (net.width() == 1 && *name.bytes() != *clock.bytes()),
-        None => false,
-    }
+    let name = name.bytes();
+    top.is_input(name) && (top.is_one_bit(name) && *name != *clock.bytes())
 }

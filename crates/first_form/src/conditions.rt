@@ -491,13 +491,16 @@ fn all_plain(items: &[Item]) -> bool
 fn meets(alloc: Global, items: &[Item], names: &Names) -> Result<bool, AllocError>
     ensures { IfOk result (λ holds. IsTrue holds ↔ AreFirstForm (names_of names.now) items.now) }
 {
+    let plain = all_plain(items);
+    if !plain {
+        return Ok(false);
+    }
     let clock = names.clock.as_bytes();
     let declared = declares_well(alloc, items, clock, names.check.as_bytes())?;
     let driven = drives_well(alloc, items)?;
     let written = writes_well(alloc, items)?;
     let read = reads_well(alloc, items, clock)?;
     let taken = takes_well(alloc, items, clock)?;
-    let plain = all_plain(items);
     Ok(all_six(plain, declared, driven, written, read, taken))
 }
 

@@ -9,10 +9,9 @@ ghost use Rattle.name_rules.specs.Histories.{bad_declaration_by, history_in, sai
 
 use crate::header::Header;
 use crate::history::{History, is_bad};
-use crate::noting::note_if;
 use crate::owners::note_shared_names;
 use bm_base::{NoMemory, Range};
-use hierarchy::Earliest;
+use hierarchy::{Earliest, note_if};
 use nets::Nets;
 use std::alloc::Global;
 use std::collections::HashMap;

@@ -6,9 +6,8 @@ ghost use Rattle.vlog_tree.specs.Meaning.Uses.{Text};
 ghost use Rattle.name_rules.specs.Declarations.{bad_ports, directs, is_among};
 ghost use Rattle.name_rules.specs.Headers.{bad_port_by, has_in};
 
-use crate::noting::note_if;
 use bm_base::{Name, NoMemory};
-use hierarchy::Earliest;
+use hierarchy::{Earliest, note_if};
 use nets::{Net, Nets};
 use std::alloc::Global;
 use std::collections::HashMap;

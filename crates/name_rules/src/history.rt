@@ -4,6 +4,7 @@ ghost use Rattle.name_rules.specs.Declarations.{same_range};
 ghost use Rattle.name_rules.specs.Histories.{is_bad_with, repeats, said_after, says_input, says_register};
 
 use bm_base::Range;
+use nets::span;
 use vlog_tree::{Dir, NetKind};
 
 // The greatest width of a name, in bits.
@@ -110,11 +111,4 @@ fn is_same(range: Range, other: Range) -> bool
     ensures { result ≡ same_range range other }
 {
     range.left == other.left && range.right == other.right
-}
-
-// How many bits a range has.
-fn span(range: Range) -> usize
-    ensures { result ≡ span range }
-{
-    range.left.abs_diff(range.right) as usize + 1
 }

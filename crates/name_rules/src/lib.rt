@@ -5,7 +5,6 @@ mod connections;
 mod declarations;
 mod header;
 mod history;
-mod noting;
 mod owners;
 mod ports;
 mod uses;

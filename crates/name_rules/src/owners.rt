@@ -7,9 +7,8 @@ ghost use Rattle.nets.specs.Used.{shown, use_shown};
 ghost use Rattle.name_rules.specs.Declarations.{implicit_things, own_things, shared_names, thing};
 ghost use Rattle.name_rules.specs.Owners.{clashes, implicit_among, kept_in, owned, take_thing, walk};
 
-use crate::noting::note_if;
 use bm_base::NoMemory;
-use hierarchy::Earliest;
+use hierarchy::{Earliest, note_if};
 use nets::{Nets, Use, uses_of};
 use std::alloc::Global;
 use std::collections::HashMap;

@@ -1,10 +1,11 @@
 -- What a module says of its names.
-use Rattle.std.specs.Prelude.{ℕ, List, [], ◌∷◌, Bool, Option, None, Some, bytes_eq, cond, filter_map, find, flat_map, option_map, unwrap_or}
+use Rattle.std.specs.Prelude.{ℕ, ◌==◌, List, [], ◌∷◌, Bool, Option, None, Some, bytes_eq, cond, filter_map, find, flat_map, option_map, unwrap_or}
 use Rattle.std.specs.Option.{option_or}
 use Rattle.bm_base.specs.declared.range.Range.{Range}
 use Rattle.vlog_tree.specs.declared.design.Module.{Module}
 use Rattle.vlog_tree.specs.declared.item.Item.{Item}
 use Rattle.vlog_tree.specs.declared.item.Item.TheVariants.{Decl}
+use Rattle.vlog_tree.specs.Meaning.Keys.{bit_count}
 use Rattle.vlog_tree.specs.Meaning.Names.{declares, is_declared, is_input, is_named, is_output, is_register, names}
 use Rattle.vlog_tree.specs.Meaning.Ranges.{range_of}
 use Rattle.vlog_tree.specs.Meaning.Uses.{Text, item_uses}
@@ -55,6 +56,10 @@ net_with m name range = record {
 -- what a module says of a name; nothing where it is neither declared nor implicit
 abbrev pub net_of : Module → Text → Option Net
 net_of m name = option_map (net_with m name) (range_of m name)
+
+-- The name has one bit.
+abbrev pub is_one_bit : Module → Text → Bool
+is_one_bit m name = bit_count m name == 1
 
 -- its names in their order, each with what it says of it
 abbrev pub nets : Module → List (Text × Net)

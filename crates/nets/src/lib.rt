@@ -7,11 +7,13 @@ mod marks;
 mod net;
 mod places;
 mod placing;
+mod ranges;
 mod standing;
 mod table;
 mod used;
 mod uses;
 
 pub use net::Net;
+pub use ranges::{place_of, span};
 pub use table::Nets;
 pub use uses::{Use, uses_of};

@@ -3,6 +3,7 @@ ghost use Rattle.vlog_tree.specs.Meaning.Ranges.{span};
 ghost use Rattle.nets.specs.Declaring.{declared_again, first_declared, implicit_net};
 
 use crate::marks::Marks;
+use crate::ranges::span;
 use bitflags::Flags;
 use bm_base::Range;
 use std::marker::Model;
@@ -112,7 +113,7 @@ impl Net {
     pub fn width(&self) -> usize
         ensures { result ≡ span self.now.range }
     {
-        self.range.left.abs_diff(self.range.right) as usize + 1
+        span(self.range)
     }
 
     /// The first range that one of the declarations writes.

@@ -2,7 +2,8 @@ ghost use Rattle.std.specs.Prelude.{◌≡◌, ◌<◌, ◌↔◌, [], IfOk, IfS
 ghost use Rattle.std.specs.Option.{option_copied, option_map};
 ghost use Rattle.vlog_tree.specs.Meaning.Ranges.{range_of};
 ghost use Rattle.vlog_tree.specs.Meaning.Uses.{item_uses};
-ghost use Rattle.nets.specs.Nets.{net_of, net_with, nets};
+ghost use Rattle.vlog_tree.specs.Meaning.Names.{is_input, is_output, is_register};
+ghost use Rattle.nets.specs.Nets.{is_one_bit, net_of, net_with, nets};
 ghost use Rattle.nets.specs.Used.{shown};
 
 use crate::Net;
@@ -86,6 +87,46 @@ impl<'a> Nets<'a> {
         ensures found { is_some result ≡ is_some (range_of self.now name.now) }
     {
         self.entries.get_index_of(name)
+    }
+
+    /// Some declaration says `input` of the name.
+    pub fn is_input(&self, name: &[u8]) -> bool
+        ensures { result ≡ is_input self.now name.now }
+    {
+        match self.find(name) {
+            Some(net) => net.is_input(),
+            None => false,
+        }
+    }
+
+    /// Some declaration says `output` of it.
+    pub fn is_output(&self, name: &[u8]) -> bool
+        ensures { result ≡ is_output self.now name.now }
+    {
+        match self.find(name) {
+            Some(net) => net.is_output(),
+            None => false,
+        }
+    }
+
+    /// Some declaration says `reg` of it.
+    pub fn is_register(&self, name: &[u8]) -> bool
+        ensures { result ≡ is_register self.now name.now }
+    {
+        match self.find(name) {
+            Some(net) => net.is_register(),
+            None => false,
+        }
+    }
+
+    /// It has one bit.
+    pub fn is_one_bit(&self, name: &[u8]) -> bool
+        ensures { result ≡ is_one_bit self.now name.now }
+    {
+        match self.find(name) {
+            Some(net) => net.width() == 1,
+            None => false,
+        }
     }
 
     /// All uses of names in the module, in source order.

@@ -1,4 +1,3 @@
 mod LinkLemmas
-mod NameLemmas
 mod TargetLemmas
 mod UseLemmas

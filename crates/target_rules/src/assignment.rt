@@ -5,7 +5,6 @@ ghost use Rattle.vlog_tree.specs.Meaning.Uses.{use_of};
 ghost use Rattle.target_rules.specs.Judged.{bad_name};
 ghost use Rattle.target_rules.specs.Targets.{held_use, plain_use};
 
-use crate::names::{is_input, is_register};
 use bm_base::Name;
 use hierarchy::Earliest;
 use nets::Nets;
@@ -42,7 +41,7 @@ impl Assignment {
 fn note_if_held<'a>(nets: &Nets<'a>, found: &mut Earliest<'a>, at: u64, name: &'a Name)
     ensures { found.new ≡ fold earlier found.old (held_use nets.now (use_of at name.now true)) }
 {
-    if is_input(nets, name.bytes()) || is_register(nets, name.bytes()) {
+    if nets.is_input(name.bytes()) || nets.is_register(name.bytes()) {
         found.note(at, nets.module().name.bytes(), name.bytes());
     }
 }
@@ -51,7 +50,7 @@ fn note_if_held<'a>(nets: &Nets<'a>, found: &mut Earliest<'a>, at: u64, name: &'
 fn note_if_plain<'a>(nets: &Nets<'a>, found: &mut Earliest<'a>, at: u64, name: &'a Name)
     ensures { found.new ≡ fold earlier found.old (plain_use nets.now (use_of at name.now true)) }
 {
-    if !is_register(nets, name.bytes()) {
+    if !nets.is_register(name.bytes()) {
         found.note(at, nets.module().name.bytes(), name.bytes());
     }
 }

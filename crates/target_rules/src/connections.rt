@@ -7,7 +7,6 @@ ghost use Rattle.target_rules.specs.Judged.{bad_link, bad_port, bad_target, bad_
 use crate::assignable::is_assignable;
 use crate::assignment::Assignment;
 use crate::exprs::note_expr;
-use crate::names::is_output;
 use design_nets::port_of;
 use hierarchy::Earliest;
 use nets::Nets;
@@ -52,7 +51,7 @@ fn note_connection<'a>(
 )
     ensures { found.new ≡ fold earlier found.old (bad_port nets.now inner.now port.now expr.now) }
 {
-    if is_output(inner, port) {
+    if inner.is_output(port) {
         note_target(nets, found, expr);
     }
 }

@@ -6,7 +6,6 @@ mod assignment;
 mod connections;
 mod exprs;
 mod lefts;
-mod names;
 mod statements;
 mod targets;
 

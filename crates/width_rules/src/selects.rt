@@ -6,7 +6,7 @@ ghost use Rattle.vlog_tree.specs.Meaning.Uses.{Text};
 
 use crate::shape::TOO_WIDE;
 use bm_base::{Name, Range};
-use nets::Nets;
+use nets::{Nets, place_of};
 use vlog_tree::Ranges;
 
 /// How many bits a range has, but no more than right above the greatest width.
@@ -42,18 +42,5 @@ fn range_has_part(range: Range, part: Range) -> bool
     match (place_of(range, part.left), place_of(range, part.right)) {
         (Some(high), Some(low)) => low <= high,
         _ => false,
-    }
-}
-
-// The place of an index, from the right end, where the range has it.
-fn place_of(range: Range, index: u32) -> Option<u32>
-    ensures { result ≡ place_of range index }
-{
-    if range.right <= index && index <= range.left {
-        Some(index - range.right)
-    } else if range.left <= index && index <= range.right {
-        Some(range.right - index)
-    } else {
-        None
     }
 }

@@ -1,5 +1,5 @@
 -- What the table of a module's names tells of what declarations call them.
-use Rattle.std.proofs.Common.{◌≡◌, List, [], ◌∷◌, Bool, true, false, ◌||◌, ◌&&◌, cond, Option, Some, None, is_some, refl, ap, ◌∙◌}
+use Rattle.std.proofs.Common.{◌≡◌, List, [], ◌∷◌, Bool, true, false, ◌||◌, ◌&&◌, cond, Option, Some, None, is_some, refl, ap, sym, ◌∙◌}
 use Rattle.std.specs.List.{find, list_any}
 use Rattle.std.specs.Option.{option_map, option_or}
 use Rattle.bm_base.specs.declared.range.Range.{Range}
@@ -119,3 +119,7 @@ register_told m name = first (range_of m name) ∙ has_range m name (declares_re
     first : (range : Option Range) → tells_register (option_map (net_with m name) range) ≡ (is_some range && is_register m name)
     first None = refl
     first (Some range) = refl
+
+-- A name of which nothing is told is called nothing.
+pub no_input : (m : Module) (name : Text) → net_of m name ≡ None → is_input m name ≡ false
+no_input m name none = sym (input_told m name) ∙ ap tells_input none
