@@ -1,5 +1,5 @@
 -- The shape of each form of expression, and of each form of left side.
-use Rattle.std.specs.Prelude.{◌≡◌, ℕ, List, [], ◌∷◌, map, max, ◌*◌}
+use Rattle.std.specs.Prelude.{◌≡◌, ℕ, Bool, List, [], ◌∷◌, map, max, ◌*◌}
 use Rattle.std.proofs.Common.{ap, sym, ◌∙◌}
 use Rattle.bm_base.specs.declared.range.Range.{Range}
 use Rattle.vlog_tree.specs.declared.design.Module.{Module}
@@ -15,10 +15,13 @@ use Rattle.vlog_tree.specs.declared.left.Left.TheOpen.{Left-F}
 use Rattle.vlog_tree.specs.declared.left.Left.TheVariants as left
 use Rattle.vlog_tree.specs.Meaning.Uses.{Text}
 use Rattle.vlog_tree.specs.Meaning.Widths.{binary_width, unary_width}
-use Rattle.width_rules.specs.Capped.{bit_shape, part_shape, row_of, whole_shape}
+use Rattle.width_rules.specs.Capped.{bit_shape, number_shape, part_shape, row_of, whole_shape}
 use Rattle.width_rules.specs.Widths.{Shape, expr_shape, expr_shape_at, judged, left_shape, left_shape_at, together, widths_of}
 
 module _ (m : Module) (e : Expr) where
+  pub number : (at : ℕ) (bits : List Bool) → e ≡ expr.Number at bits → expr_shape m e ≡ number_shape m at bits
+  number at bits is = ap (expr_shape m) (is ∙ sym (expr.rolls-Number at bits)) ∙ fold-roll-Expr Shape (expr_shape_at m) (Expr-F.Number at bits)
+
   pub whole : (at : ℕ) (name : Text) → e ≡ expr.Whole at name → expr_shape m e ≡ whole_shape m at name
   whole at name is = ap (expr_shape m) (is ∙ sym (expr.rolls-Whole at name)) ∙ fold-roll-Expr Shape (expr_shape_at m) (Expr-F.Whole at name)
 

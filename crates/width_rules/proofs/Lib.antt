@@ -1,4 +1,4 @@
-mod FormLemmas
+pub mod FormLemmas
 mod ListLemmas
 mod RowLemmas
 mod ShapeLemmas

@@ -1,6 +1,6 @@
 -- What is kept of a shape while rules are checked: its failures are noted, and its width stays right above the greatest
 -- where it is wider.
-use Rattle.std.specs.Prelude.{ℕ, ◌+◌, ◌*◌, ◌==◌, List, [], ◌∷◌, Option, None, Some, cond, flat_map, fold, min, nat_lt, unwrap_or}
+use Rattle.std.specs.Prelude.{ℕ, ◌+◌, ◌*◌, ◌==◌, Bool, List, [], ◌∷◌, Option, None, Some, cond, flat_map, fold, length, min, nat_lt, unwrap_or}
 use Rattle.std.specs.Option.{option_or}
 use Rattle.bm_base.specs.declared.range.Range.{Range}
 use Rattle.hierarchy.specs.Failures.{Failure, failure}
@@ -62,7 +62,10 @@ row_after before parts = unwrap_or (fold beside_those before parts) empty_row
 abbrev pub row_of : List Shape → Shape
 row_of parts = together parts (widths_of parts)
 
--- ---- names and their selects
+-- ---- numbers, names and their selects
+
+abbrev pub number_shape : Module → ℕ → List Bool → Shape
+number_shape m at bits = judged m (shape at None (length bits) [])
 
 abbrev pub whole_shape : Module → ℕ → Text → Shape
 whole_shape m at name = judged m (shape at (Some name) (whole_width m name) [])

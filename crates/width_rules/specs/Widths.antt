@@ -66,7 +66,7 @@ abbrev pub together : List Shape → ℕ → Shape
 together parts width = shape (first_place parts) (first_name parts) width (failures_of parts)
 
 abbrev pub expr_shape_at : Module → Expr-F Shape → Shape
-expr_shape_at m (Expr-F.Number at bits) = shape at None (length bits) []
+expr_shape_at m (Expr-F.Number at bits) = judged m (shape at None (length bits) [])
 expr_shape_at m (Expr-F.Whole at name) = judged m (shape at (Some name) (whole_width m name) [])
 expr_shape_at m (Expr-F.Bit at name index) = shape at (Some name) 1 (bad_select m at name (bit_with m name index))
 expr_shape_at m (Expr-F.Part at name part) =

@@ -2,15 +2,22 @@
 ghost use Rattle.std.specs.Prelude.{◌≡◌, fold, flat_map, map, None, Some};
 ghost use Rattle.hierarchy.specs.Failures.{earlier};
 ghost use Rattle.vlog_tree.specs.Meaning.Widths.{binary_width, unary_width};
-ghost use Rattle.width_rules.specs.Capped.{beside_those, bit_shape, cap, capped, part_shape, row_of, whole_shape};
+ghost use Rattle.width_rules.specs.Capped.{beside_those, bit_shape, cap, capped, number_shape, part_shape, row_of, whole_shape};
 ghost use Rattle.width_rules.specs.Widths.{expr_shape, failures_of, in_expr, in_left, left_shape, whole_width};
 
 use crate::selects::{capped_span, has_bit, has_part};
 use crate::shape::Shape;
-use bm_base::{Name, Range};
+use bm_base::{Bits, Name, Range};
 use hierarchy::Earliest;
 use nets::Nets;
 use vlog_tree::{BinOp, Expr, Left, Ranges, UnOp};
+
+fn note_number<'a>(nets: &Nets<'a>, found: &mut Earliest<'a>, at: u64, bits: &Bits) -> Shape<'a>
+    ensures shape { result ≡ capped (number_shape nets.now at bits.now) }
+    ensures failures { found.new ≡ fold earlier found.old (number_shape nets.now at bits.now).failures }
+{
+    Shape::of_number(at, bits.len()).judged(nets, found)
+}
 
 fn note_whole<'a>(nets: &Nets<'a>, found: &mut Earliest<'a>, at: u64, name: &'a Name) -> Shape<'a>
     ensures shape { result ≡ capped (whole_shape nets.now at name.now) }
@@ -87,7 +94,7 @@ pub(crate) fn note_expr<'a>(nets: &Nets<'a>, found: &mut Earliest<'a>, expr: &'a
     ensures failures { found.new ≡ fold earlier found.old (in_expr nets.now expr.now) }
 {
     match expr {
-        Expr::Number { at, bits } => Shape::of_number(*at, bits.len()),
+        Expr::Number { at, bits } => note_number(nets, found, *at, bits),
         Expr::Whole { at, name } => note_whole(nets, found, *at, name),
         Expr::Bit { at, name, index } => note_bit(nets, found, *at, name, *index),
         Expr::Part { at, name, range } => note_part(nets, found, *at, name, *range),

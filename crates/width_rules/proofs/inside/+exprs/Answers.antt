@@ -2,12 +2,25 @@ use Rattle.std.proofs.Common.{rules, drop, ap, sym, ◌∙◌, ◌≡◌}
 use Rattle.std.proofs.lemmas.List.{drop_all}
 use Rattle.std.specs.Prelude.{[], ◌∷◌, map, max, ◌*◌}
 use Rattle.vlog_tree.specs.Meaning.Widths.{binary_width, unary_width}
-use Rattle.width_rules.specs.Capped.{bit_shape, capped, part_shape, row_of, whole_shape}
+use Rattle.width_rules.specs.Capped.{bit_shape, capped, number_shape, part_shape, row_of, whole_shape}
 use Rattle.width_rules.specs.Widths.{Shape, expr_shape, judged, together, widths_of}
 use Rattle.width_rules.proofs.FormLemmas as form
 use Rattle.width_rules.proofs.RowLemmas.{row_ends}
 use Rattle.width_rules.proofs.ShapeLemmas.{judged_noted, noted_as, three_noted, three_whole, times_whole, two_noted, two_whole}
 use Rattle.width_rules.proofs.inside.+exprs.Goals as goal
+
+pub note_expr-returns-in-Number-clause-shape : goal.note_expr-returns-in-Number-clause-shape
+note_expr-returns-in-Number-clause-shape t c =
+    let i = c.in-Number in
+    c.note_number.ensures.shape ∙ ap capped (sym (form.number c.args.nets.now c.args.expr.now i.at i.bits i.is))
+
+pub note_expr-returns-in-Number-clause-failures : goal.note_expr-returns-in-Number-clause-failures
+note_expr-returns-in-Number-clause-failures t c =
+    let m = c.args.nets.now in
+    let e = c.args.expr.now in
+    let i = c.in-Number in
+    noted_as (expr_shape m e) (number_shape m i.at i.bits) c.args.found.now c.note_number.new.found
+    (form.number m e i.at i.bits i.is) c.note_number.ensures.failures
 
 pub note_expr-returns-in-Whole-clause-shape : goal.note_expr-returns-in-Whole-clause-shape
 note_expr-returns-in-Whole-clause-shape t c =

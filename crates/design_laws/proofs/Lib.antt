@@ -1,0 +1,10 @@
+mod Apart
+mod Exprs
+mod GrammarLemmas
+mod Instances
+mod Items
+mod Law
+mod Lefts
+mod Members
+mod Naming
+mod Reaching

@@ -1,0 +1,4 @@
+pub mod AddingLemmas
+pub mod ShapeLemmas
+pub mod TreeLemmas
+pub mod StandingLemmas

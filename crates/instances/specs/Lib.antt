@@ -1,0 +1,4 @@
+pub mod Adding
+pub mod Placing
+pub mod Shapes
+pub mod Standing

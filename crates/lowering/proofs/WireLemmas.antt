@@ -1,0 +1,25 @@
+-- Places of a range, and the bits from one up.
+use Rattle.std.proofs.Common.{◌≡◌, ℕ, zero, suc, ◌+◌, ◌-◌, ◌<◌, ◌∷◌, Some, ap, arith, option_map, unwrap_or}
+use Rattle.std.specs.List.{range_with_len}
+use Rattle.std.proofs.lemmas.Bool.Decides.{nat_tests}
+use Rattle.bm_base.specs.declared.range.Range.{Range}
+use Rattle.vlog_tree.specs.declared.design.Module.{Module}
+use Rattle.vlog_tree.specs.Meaning.Keys.{bit_count}
+use Rattle.vlog_tree.specs.Meaning.Ranges.{place_of, range_of, span}
+use Rattle.vlog_tree.specs.Meaning.Uses.{Text}
+
+place_in_span : (range : Range) (index place : ℕ) → place_of range index ≡ Some place → place < span range
+place_in_span range index place is = grind (arith, nat_tests)
+
+-- A place of a name's range is one of its bits.
+pub place_within : (m : Module) (name : Text) (range : Range) (index place : ℕ) → range_of m name ≡ Some range
+    → place_of range index ≡ Some place → place < bit_count m name
+place_within m name range index place range_is place_is =
+    let count : bit_count m name ≡ span range = ap (λ found. unwrap_or (option_map span found) 0) range_is in
+    let within : place < span range = place_in_span range index place place_is in
+    omega arith
+
+-- One bit, and those above it.
+pub range_less : (low count : ℕ) → 0 < count → range_with_len low count ≡ low ∷ range_with_len (low + 1) (count - 1)
+range_less low zero h = absurd (omega arith)
+range_less low (suc count) h = ap (λ k. low ∷ range_with_len (low + 1) k) (omega arith)

@@ -1,0 +1,9 @@
+pub mod Expressions
+pub mod Forms
+pub mod Gates
+pub mod Limits
+pub mod Loops
+pub mod Lowered
+pub mod Meaning
+pub mod Operators
+pub mod Wiring

@@ -1,0 +1,8 @@
+pub mod BitLemmas
+mod KindLemmas
+mod KnownLemmas
+pub mod NumberBitLemmas
+pub mod NumberEdgeLemmas
+pub mod NumberKeyLemmas
+pub mod NumberListLemmas
+mod PlacedLemmas

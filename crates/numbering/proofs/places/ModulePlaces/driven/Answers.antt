@@ -1,0 +1,5 @@
+use Rattle.numbering.proofs.PlacedLemmas.{driven_are}
+use Rattle.numbering.proofs.places.ModulePlaces.driven.Goals as goal
+
+pub returns-clause-count : goal.returns-clause-count
+returns-clause-count c = driven_are _ c.args.self.now c.self.view_is c.self.inside.places c.self.inside.counts c.self.invariant

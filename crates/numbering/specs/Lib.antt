@@ -1,0 +1,6 @@
+pub mod Bits
+pub mod Frames
+pub mod Numbering
+pub mod Numbers
+pub mod Placed
+pub mod Places

@@ -1,0 +1,4 @@
+//! That the values of the bits of a design settle.
+#![tactic(auto)]
+
+pub mod laws;
