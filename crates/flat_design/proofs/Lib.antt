@@ -1,0 +1,12 @@
+pub mod DriveLemmas
+pub mod DriverLemmas
+pub mod GivenLemmas
+pub mod MeansLemmas
+pub mod NoneLemmas
+pub mod PlacesLemmas
+pub mod PortLemmas
+pub mod StandBits
+pub mod StandLists
+pub mod StandNodes
+pub mod StandValues
+pub mod Stands

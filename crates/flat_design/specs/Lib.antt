@@ -1,0 +1,6 @@
+pub mod Flat
+pub mod Instances
+pub mod Items
+pub mod Means
+pub mod Sizes
+pub mod Values
