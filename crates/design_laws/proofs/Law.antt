@@ -26,7 +26,8 @@ use Rattle.design_laws.proofs.Instances.{IsPlaced, all_placed, as_top, depth_bel
 use Rattle.design_laws.proofs.Items.{HasModule, item_sound}
 use Rattle.design_laws.proofs.Members.{Has, all_by, any_member, each_none, found_has, is_noted, not_noted}
 use Rattle.design_laws.proofs.Naming.{child_found, finds, ports_known}
-use Rattle.design_laws.proofs.Reaching.{IsReached, item_of, rule_kept}
+use Rattle.design_laws.proofs.Reaching.{IsReached, item_of, own_name, rule_kept, same_text}
+use Rattle.design_laws.proofs.Registers.{registers_apart}
 
 -- ---- the top
 
@@ -43,16 +44,17 @@ top_there design top none =
 
 -- ---- instances in the source
 
-none_of_three : (a b c : Bool) → (a || (b || c)) ≡ false → (a ≡ false) × (c ≡ false)
-none_of_three false false c is = (refl, is)
+none_of_three : (a b c : Bool) → (a || (b || c)) ≡ false → (a ≡ false) × (b ≡ false) × (c ≡ false)
+none_of_three false false c is = (refl, refl, is)
 none_of_three true b c is = absurd cc
 none_of_three false true c is = absurd cc
 
 module _ (setting : Setting) (keeps : Keeps setting) where
-  -- An instance in a reached module has its module, and ends no path of the greatest length.
+  -- An instance in a reached module has its module, does not lead back, and ends no path of the greatest length.
   instance_right : (m : Module) (at : ℕ) (inner name : Text) (links : List Link) → IsReached setting.design setting.top m
       → Has m.items (Instance' at inner name links)
-      → (is_none (module_named setting.design inner) ≡ false) × (leads setting.design greatest_path setting.top m.name ≡ false)
+      → (is_none (module_named setting.design inner) ≡ false) × (reaches setting.design inner m.name ≡ false)
+      × (leads setting.design greatest_path setting.top m.name ≡ false)
   instance_right m at inner name links is has =
       let rule : Module → List Failure = λ m. flat_map (bad_instance setting.design setting.top m) m.items in
       none_of_three (is_none (module_named setting.design inner)) (reaches setting.design inner m.name)
@@ -121,7 +123,7 @@ module _ (setting : Setting) (keeps : Keeps setting) where
         → length x.path ≡ greatest_path → ⊥
     not_deepest x child is has deep =
         let i = item_of setting.design x.definition.items child has in
-        let short = (instance_right x.definition i.at i.inner child.name child.links is.reached i.has).1 in
+        let short = (instance_right x.definition i.at i.inner child.name child.links is.reached i.has).2 in
         let far : leads setting.design greatest_path setting.top x.definition.name ≡ true =
         subst (λ count. leads setting.design count setting.top x.definition.name ≡ true) deep is.far in
         absurd (false≢true (sym short ∙ far))
@@ -151,6 +153,25 @@ module _ (setting : Setting) (keeps : Keeps setting) where
           }))
     ]
 
+    -- A child of an instance is not of the top's module.
+    not_top : (outer : Instance) (child : Child) → IsPlaced setting outer → Has (children setting.design outer.definition) child
+        → bytes_eq child.definition.name setting.top ≡ true → ⊥
+    not_top outer child is has top =
+        let i = item_of setting.design outer.definition.items child has in
+        let no_way = (instance_right outer.definition i.at i.inner child.name child.links is.reached i.has).1 in
+        let same : i.inner ≡ setting.top =
+        sym (own_name setting.design i.inner child.definition i.found) ∙ same_text child.definition.name setting.top top in
+        absurd (false≢true (sym (subst (λ name. reaches setting.design name outer.definition.name ≡ false) same no_way) ∙ is.reached.reaches))
+
+    only_top : (i : ℕ) (x : Instance) → slice_get (instances setting) i ≡ Some x → bytes_eq x.definition.name setting.top ≡ true
+        → x.path ≡ []
+    only_top i x at top = elim (parent_of i x at) [
+      | inl is ↦ is.0
+      | inr up ↦ absurd (not_top up.outer up.child (placed up.place up.outer up.stands)
+          (found_has (λ (other : Child). bytes_eq other.name up.child.name) (children setting.design up.outer.definition) up.child up.named).0
+          (subst (λ (x : Instance). bytes_eq x.definition.name setting.top ≡ true) up.is top))
+    ]
+
     sound : IsSound setting
     sound = record {
       top = ap is_some found;
@@ -161,6 +182,9 @@ module _ (setting : Setting) (keeps : Keeps setting) where
       parent = parent_of;
       items = λ i x at. items_sound x.definition (placed i x at).reached;
       ports = λ i x at. ports_known x.definition (right_names i x at);
+      apart = λ i x at name. registers_apart x.definition name (right_names i x at);
+      named = λ i x at. (placed i x at).reached.found;
+      only_top = only_top;
     }
 
 pub kept_is_sound : KeptIsSound

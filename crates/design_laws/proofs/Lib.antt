@@ -8,3 +8,4 @@ mod Lefts
 mod Members
 mod Naming
 mod Reaching
+mod Registers

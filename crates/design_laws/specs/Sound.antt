@@ -2,6 +2,7 @@
 -- bits.
 use Rattle.std.specs.Prelude.{◌≡◌, ◌⊎◌, ℕ, ◌==◌, List, [], Bool, true, false, ◌&&◌, Option, Some, None, IsSome, is_some, length, slice_get}
 use Rattle.std.specs.List.{list_all}
+use Rattle.std.specs.Str.{bytes_eq}
 use Rattle.vlog_tree.specs.declared.design.Design.{Design}
 use Rattle.vlog_tree.specs.declared.design.Module.{Module}
 use Rattle.vlog_tree.specs.declared.expr.Expr.{Expr}
@@ -17,8 +18,10 @@ use Rattle.vlog_tree.specs.declared.stmt.Stmt.TheOpen.{Stmt-F}
 use Rattle.vlog_tree.specs.Meaning.Instances.{Child, Instance, child_named, instances, module_at, module_named, top_module}
 use Rattle.vlog_tree.specs.Meaning.Instances as meaning
 use Rattle.vlog_tree.specs.Meaning.Lefts.{left_bits}
+use Rattle.vlog_tree.specs.Meaning.Names.{is_input, is_register}
 use Rattle.vlog_tree.specs.Meaning.Ranges.{bit_with, part_bits, range_of}
 use Rattle.vlog_tree.specs.Meaning.Setting.{Setting}
+use Rattle.vlog_tree.specs.Meaning.Uses.{Text}
 use Rattle.vlog_tree.specs.Meaning.Widths.{width}
 use Rattle.lowering.specs.Meaning.{is_sound}
 use Rattle.design_laws.specs.Kept.{Keeps}
@@ -125,6 +128,15 @@ pub record IsSound (setting : Setting) : Type 0 where
   -- The ports of the header are declared.
   pub ports : (i : ℕ) (instance : Instance) → slice_get (instances setting) i ≡ Some instance
       → list_all (λ port. is_some (range_of instance.definition port)) instance.definition.ports ≡ true
+  -- No register is an input.
+  pub apart : (i : ℕ) (instance : Instance) → slice_get (instances setting) i ≡ Some instance
+      → (name : Text) → is_register instance.definition name ≡ true → is_input instance.definition name ≡ false
+  -- The module of an instance is the first of its name.
+  pub named : (i : ℕ) (instance : Instance) → slice_get (instances setting) i ≡ Some instance
+      → module_named setting.design instance.definition.name ≡ Some instance.definition
+  -- An instance of the top's module is the top.
+  pub only_top : (i : ℕ) (instance : Instance) → slice_get (instances setting) i ≡ Some instance
+      → bytes_eq instance.definition.name setting.top ≡ true → instance.path ≡ []
 
 -- A design that keeps the rules is sound.
 abbrev pub KeptIsSound : Type 0

@@ -3,6 +3,7 @@ pub mod DriverLemmas
 pub mod GivenLemmas
 pub mod MeansLemmas
 pub mod NoneLemmas
+pub mod OrderLemmas
 pub mod PlacesLemmas
 pub mod PortLemmas
 pub mod StandBits
@@ -10,3 +11,6 @@ pub mod StandLists
 pub mod StandNodes
 pub mod StandValues
 pub mod Stands
+pub mod OrderExprLemmas
+pub mod OrderStatementLemmas
+pub mod OrderItemLemmas

@@ -2,5 +2,6 @@ pub mod Flat
 pub mod Instances
 pub mod Items
 pub mod Means
+pub mod Order
 pub mod Sizes
 pub mod Values

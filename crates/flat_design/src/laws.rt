@@ -1,5 +1,6 @@
 //! What the definition of the flat netlist says of the meaning.
 ghost use Rattle.flat_design.specs.Means.{MeansDrives};
+ghost use Rattle.flat_design.specs.Order.{ExpressionsAreOrdered};
 ghost use Rattle.flat_design.specs.Values.{FlatHasValues};
 
 /// The edge that a bit is given has the value of what drives it.
@@ -10,4 +11,9 @@ pub fn drives()
 /// The nodes of a flat netlist have the values of the bits of its design, and the checker is that of the design.
 pub fn values()
     ensures { FlatHasValues }
+{}
+
+/// The nodes of expressions read nodes before them, so that what reads itself does so through the node of a bit.
+pub fn order()
+    ensures { ExpressionsAreOrdered }
 {}

@@ -1,17 +1,11 @@
 -- One lowering after another.
-use Rattle.std.proofs.Common.{◌≡◌, ℕ, ◌≤◌, List, [], length, arith, ap, refl, sym, ◌∙◌, append_assoc, length-append}
+use Rattle.std.proofs.Common.{◌≡◌, ℕ, ◌≤◌, List, [], arith, ap, refl, sym, ◌∙◌, append_assoc, length-append}
 use Rattle.flat_net.specs.declared.edge.Edge.{Edge}
 use Rattle.flat_net.specs.declared.node.Node.{Node}
 use Rattle.lowering.specs.Limits.{Added, next_of, with_more}
 use Rattle.lowering.specs.Loops.{Remains}
 use Rattle.lowering.specs.Lowered.{Lowered, Lowering, after, and_then, followed, lowered}
-use Rattle.lowering.proofs.RemainsLemmas.{more_twice, next_of_more, within}
-
--- What comes first is within the whole.
-pub first_within : (first : Lowering) (rest : List Edge → Lowering) (next : ℕ)
-    → after next (first next) ≤ after next (and_then first rest next)
-first_within first rest next =
-    omega (arith, length-append (first next).nodes (rest (first next).edges (after next (first next))).nodes)
+use Rattle.lowering.proofs.RemainsLemmas.{more_twice, next_of_more, same_count, within}
 
 module _ (first : Lowering) (rest : List Edge → Lowering) (edges : List Edge) (old mid : Added)
     (nodes_is : mid ≡ with_more old (first (next_of old))) (edges_is : edges ≡ (first (next_of old)).edges) where
@@ -30,14 +24,6 @@ module _ (first : Lowering) (rest : List Edge → Lowering) (edges : List Edge) 
   pub then_edges : (result : List Edge) → result ≡ (rest edges (next_of mid)).edges
       → result ≡ (and_then first rest (next_of old)).edges
   then_edges result is = is ∙ ap (λ (part : Lowered). part.edges) rest_is
-
-  -- What comes then is within the whole.
-  pub then_within : after (next_of mid) (rest edges (next_of mid)) ≤ after (next_of old) (and_then first rest (next_of old))
-  then_within =
-      let number : next_of mid ≡ after (next_of old) (first (next_of old)) = ap next_of nodes_is ∙ next_of_more old (first (next_of old)) in
-      let count : length (rest edges (next_of mid)).nodes ≡ length (rest (first (next_of old)).edges (after (next_of old) (first (next_of old)))).nodes =
-      ap (λ (part : Lowered). length part.nodes) rest_is in
-      omega (arith, length-append (first (next_of old)).nodes (rest (first (next_of old)).edges (after (next_of old) (first (next_of old)))).nodes)
 
 -- It does not matter how three are grouped.
 pub and_then_assoc : (first : Lowering) (second third : List Edge → Lowering) (next : ℕ)
@@ -59,7 +45,7 @@ begins start whole form is = record {
   edges = ap (λ (part : Lowered). part.edges) (sym is);
 }
 
-module _ (now start : Added) (first : Lowering) (rest : List Edge → Lowering) (whole : Lowering)
+module _ {now start : Added} {whole : Lowering} (first : Lowering) (rest : List Edge → Lowering)
     (remains : Remains [] now start (and_then first rest) whole) where
   -- The first is done, and its edges are these.
   pub goes_on : (edges : List Edge) (then : Added) → then ≡ with_more now (first (next_of now)) → edges ≡ (first (next_of now)).edges
@@ -76,10 +62,10 @@ module _ (now start : Added) (first : Lowering) (rest : List Edge → Lowering) 
   -- The first is within the whole.
   pub is_within : after (next_of now) (first (next_of now)) ≤ after (next_of start) (whole (next_of start))
   is_within =
-      let first_nodes : Lowered = lowered (first (next_of now)).nodes [] in
-      within [] now start (and_then first rest) whole first_nodes (rest (first (next_of now)).edges (after (next_of now) (first (next_of now)))) refl remains
+      let one : Lowered = first (next_of now) in
+      within [] now start (and_then first rest) whole (lowered one.nodes []) (rest one.edges (after (next_of now) one)) refl remains
 
-module _ (now start : Added) (last : Lowering) (whole : Lowering) (remains : Remains [] now start last whole) where
+module _ {now start : Added} {last whole : Lowering} (remains : Remains [] now start last whole) where
   pub last_nodes : (new : Added) → new ≡ with_more now (last (next_of now)) → new ≡ with_more start (whole (next_of start))
   last_nodes new is = is ∙ remains.nodes
 
@@ -89,7 +75,5 @@ module _ (now start : Added) (last : Lowering) (whole : Lowering) (remains : Rem
   -- The last is within the whole.
   pub last_within : after (next_of now) (last (next_of now)) ≤ after (next_of start) (whole (next_of start))
   last_within =
-      let count : next_of (with_more now (last (next_of now))) ≡ next_of (with_more start (whole (next_of start))) = ap next_of remains.nodes in
-      let last_count : next_of (with_more now (last (next_of now))) ≡ after (next_of now) (last (next_of now)) = next_of_more now (last (next_of now)) in
-      let whole_count : next_of (with_more start (whole (next_of start))) ≡ after (next_of start) (whole (next_of start)) = next_of_more start (whole (next_of start)) in
+      let count = same_count now start (last (next_of now)) (whole (next_of start)) remains.nodes in
       omega arith

@@ -40,7 +40,8 @@ pub or_is : (left right : List Edge) (next : ℕ) → or_bits left right next �
 or_is [] right next = refl
 or_is (x ∷ left) [] next = refl
 or_is (x ∷ left) (y ∷ right) next =
-    ap (λ (rest : Lowered). lowered (node.And (negated x) (negated y) ∷ rest.nodes) (negated (plain next) ∷ rest.edges)) (or_is left right (next + 1))
+    ap (λ (rest : Lowered). lowered (node.And (negated x) (negated y) ∷ rest.nodes) (negated (plain next) ∷ rest.edges))
+    (or_is left right (next + 1))
 
 pub xor_is : (left right : List Edge) (next : ℕ) → xor_bits left right next ≡ all_paired pairing.Xor left right next
 xor_is [] right next = refl
@@ -71,39 +72,42 @@ module _ (m : Module) (wires : Wires) where
   selected_is (Some bits) next = refl
   selected_is None next = refl
 
-  pub at_number : (e : Expr) (width next at : ℕ) (bits : List Bool) → e ≡ expr.Number at bits
+  pub at_number : (width next : ℕ) {e : Expr} {at : ℕ} {bits : List Bool} → e ≡ expr.Number at bits
       → expression m wires e width next ≡ leaf width (map constant bits)
   unfolding expression
-  at_number e width next at bits is =
+  at_number width next {e} {at} {bits} is =
       ap (λ e. expression m wires e width next) (is ∙ sym (expr.rolls-Number at bits))
       ∙ ap (λ (v : AtWidth). v width next) (para-roll-Expr AtWidth (lowered_at m wires) (Expr-F.Number at bits))
 
-  pub at_whole : (e : Expr) (width next at : ℕ) (name : Text) → e ≡ expr.Whole at name
+  pub at_whole : (width next : ℕ) {e : Expr} {at : ℕ} {name : Text} → e ≡ expr.Whole at name
       → expression m wires e width next ≡ leaf width (edges_of wires (whole_bits m name))
   unfolding expression
-  at_whole e width next at name is =
+  at_whole width next {e} {at} {name} is =
       ap (λ e. expression m wires e width next) (is ∙ sym (expr.rolls-Whole at name))
       ∙ ap (λ (v : AtWidth). v width next) (para-roll-Expr AtWidth (lowered_at m wires) (Expr-F.Whole at name))
       ∙ ap (λ (part : Lowered). lowered part.nodes (extended width part.edges)) (selected_is (whole_bits m name) next)
 
-  pub at_bit : (e : Expr) (width next at : ℕ) (name : Text) (index : ℕ) → e ≡ expr.Bit at name index
+  pub at_bit : (width next : ℕ) {e : Expr} {at : ℕ} {name : Text} {index : ℕ} → e ≡ expr.Bit at name index
       → expression m wires e width next ≡ leaf width (edges_of wires (bit_with m name index))
   unfolding expression
-  at_bit e width next at name index is =
+  at_bit width next {e} {at} {name} {index} is =
       ap (λ e. expression m wires e width next) (is ∙ sym (expr.rolls-Bit at name index))
       ∙ ap (λ (v : AtWidth). v width next) (para-roll-Expr AtWidth (lowered_at m wires) (Expr-F.Bit at name index))
       ∙ ap (λ (part : Lowered). lowered part.nodes (extended width part.edges)) (selected_is (bit_with m name index) next)
 
-  pub at_part : (e : Expr) (width next at : ℕ) (name : Text) (range : Range) → e ≡ expr.Part at name range
+  pub at_part : (width next : ℕ) {e : Expr} {at : ℕ} {name : Text} {range : Range} → e ≡ expr.Part at name range
       → expression m wires e width next ≡ leaf width (edges_of wires (part_bits m name range))
   unfolding expression
-  at_part e width next at name range is =
+  at_part width next {e} {at} {name} {range} is =
       ap (λ e. expression m wires e width next) (is ∙ sym (expr.rolls-Part at name range))
       ∙ ap (λ (v : AtWidth). v width next) (para-roll-Expr AtWidth (lowered_at m wires) (Expr-F.Part at name range))
       ∙ ap (λ (part : Lowered). lowered part.nodes (extended width part.edges)) (selected_is (part_bits m name range) next)
 
-  unary_is : (op : UnOp) (arg : Expr) (width next : ℕ) → unary_at m op (operand arg) width next ≡ and_then (expression m wires arg (operand_width m op arg width)) (unary_of op width) next
-  unary_is unary.Inv arg width next = ap (λ (nodes : List Node). lowered nodes (map negated (expression m wires arg width next).edges)) (sym (append-nil (expression m wires arg width next).nodes))
+  unary_is : (op : UnOp) (arg : Expr) (width next : ℕ)
+      → unary_at m op (operand arg) width next ≡ and_then (expression m wires arg (operand_width m op arg width)) (unary_of op width) next
+  unary_is unary.Inv arg width next =
+      let inner : Lowered = expression m wires arg width next in
+      ap (λ (nodes : List Node). lowered nodes (map negated inner.edges)) (sym (append-nil inner.nodes))
   unary_is unary.Not arg width next = refl
   unary_is unary.RedAnd arg width next = refl
   unary_is unary.RedNand arg width next = refl
@@ -112,11 +116,11 @@ module _ (m : Module) (wires : Wires) where
   unary_is unary.RedXor arg width next = refl
   unary_is unary.RedXnor arg width next = refl
 
-  pub at_unary : (e : Expr) (width next : ℕ) (op : UnOp) (arg read : Expr) (inner : ℕ) → e ≡ expr.Unary op arg
+  pub at_unary : (width next : ℕ) {e : Expr} {op : UnOp} {arg read : Expr} {inner : ℕ} → e ≡ expr.Unary op arg
       → read ≡ arg → inner ≡ operand_width m op read width
       → expression m wires e width next ≡ and_then (expression m wires read inner) (unary_of op width) next
   unfolding expression
-  at_unary e width next op arg read inner is read_is inner_is =
+  at_unary width next {e} {op} {arg} {read} {inner} is read_is inner_is =
       ap (λ e. expression m wires e width next) (is ∙ sym (expr.rolls-Unary op arg))
       ∙ ap (λ (v : AtWidth). v width next) (para-roll-Expr AtWidth (lowered_at m wires) (Expr-F.Unary op arg))
       ∙ unary_is op arg width next
@@ -152,7 +156,8 @@ module _ (m : Module) (wires : Wires) where
   same_is xs ys n = ap (λ (first : Lowered). followed first (no_bit first.edges (after n first))) (xor_is xs ys n)
 
   abbrev of_both : BinOp → Expr → Expr → ℕ × ℕ → ℕ → Lowering
-  of_both op left right widths width = and_then_both (expression m wires left widths.0) (expression m wires right widths.1) (binary_of op width)
+  of_both op left right widths width =
+      and_then_both (expression m wires left widths.0) (expression m wires right widths.1) (binary_of op width)
 
   binary_is : (op : BinOp) (left right : Expr) (width next : ℕ)
       → binary_at m op (operand left) (operand right) width next ≡ of_both op left right (operand_widths m op left right width) width next
@@ -161,9 +166,11 @@ module _ (m : Module) (wires : Wires) where
   binary_is binary.Xor left right width next = both_then left right width width next xor_bits (all_paired pairing.Xor) xor_is
   binary_is binary.Xnor left right width next = both_then left right width width next xnor_bits (all_paired pairing.Xnor) xnor_is
   binary_is binary.LogAnd left right width next =
-      both_then left right (width_of m left) (width_of m right) next (λ xs ys. widened width (both_true xs ys)) (binary_of binary.LogAnd width) (truths_is width)
+      both_then left right (width_of m left) (width_of m right) next (λ xs ys. widened width (both_true xs ys))
+      (binary_of binary.LogAnd width) (truths_is width)
   binary_is binary.LogOr left right width next =
-      both_then left right (width_of m left) (width_of m right) next (λ xs ys. widened width (some_true xs ys)) (binary_of binary.LogOr width) (some_is width)
+      both_then left right (width_of m left) (width_of m right) next (λ xs ys. widened width (some_true xs ys))
+      (binary_of binary.LogOr width) (some_is width)
   binary_is binary.Eq left right width next =
       let both : ℕ = max (width_of m left) (width_of m right) in
       both_then left right both both next (λ xs ys. widened width (same_bits xs ys)) (binary_of binary.Eq width)
@@ -173,12 +180,12 @@ module _ (m : Module) (wires : Wires) where
       both_then left right both both next (λ xs ys. widened width (inverted (same_bits xs ys))) (binary_of binary.Ne width)
       (λ xs ys n. ap (λ (it : Lowered). lowered it.nodes (extended width (map negated it.edges))) (same_is xs ys n))
 
-  pub at_binary : (e : Expr) (width next : ℕ) (op : BinOp) (left right first second : Expr) (inner : ℕ × ℕ)
+  pub at_binary : (width next : ℕ) {e : Expr} {op : BinOp} {left right first second : Expr} {inner : ℕ × ℕ}
       → e ≡ expr.Binary op left right → first ≡ left → second ≡ right → inner ≡ operand_widths m op first second width
       → expression m wires e width next
       ≡ and_then_both (expression m wires first inner.0) (expression m wires second inner.1) (binary_of op width) next
   unfolding expression
-  at_binary e width next op left right first second inner is first_is second_is inner_is =
+  at_binary width next {e} {op} {left} {right} {first} {second} {inner} is first_is second_is inner_is =
       let both : Expr → Expr → ℕ × ℕ → Lowered = λ left right widths.
       and_then_both (expression m wires left widths.0) (expression m wires right widths.1) (binary_of op width) next in
       ap (λ e. expression m wires e width next) (is ∙ sym (expr.rolls-Binary op left right))
@@ -188,11 +195,11 @@ module _ (m : Module) (wires : Wires) where
       ∙ ap (λ e. both first e (operand_widths m op first e width)) (sym second_is)
       ∙ ap (both first second) (sym inner_is)
 
-  pub at_choice : (e : Expr) (width next : ℕ) (condition first second read taken other : Expr) (inner : ℕ)
+  pub at_choice : (width next : ℕ) {e condition first second read taken other : Expr} {inner : ℕ}
       → e ≡ expr.Cond condition first second → read ≡ condition → taken ≡ first → other ≡ second → inner ≡ width_of m read
       → expression m wires e width next ≡ of_choice m wires read taken other inner width next
   unfolding expression
-  at_choice e width next condition first second read taken other inner is read_is taken_is other_is inner_is =
+  at_choice width next {e} {condition} {first} {second} {read} {taken} {other} {inner} is read_is taken_is other_is inner_is =
       let condition_first : Lowering = expression m wires condition (width_of m condition) in
       let chosen : Lowered = truth m (operand condition) next in
       let edge : Edge = only chosen.edges in
@@ -240,22 +247,23 @@ module _ (m : Module) (wires : Wires) where
   parts_is : (parts : List Expr) (next : ℕ) → joined m (map operand parts) next ≡ of_parts m wires parts next
   unfolding of_parts
   parts_is parts next =
-      ap (λ (nodes : List Node). lowered nodes (flat_map (λ (part : Lowered). part.edges) (reverse (in_turn (lowerings parts) next)))) (part_nodes parts next)
+      let edges : List Edge = flat_map (λ (part : Lowered). part.edges) (reverse (in_turn (lowerings parts) next)) in
+      ap (λ (nodes : List Node). lowered nodes edges) (part_nodes parts next)
       ∙ ap (λ (edges : List Edge). lowered (highest_first m wires parts next).nodes edges) (part_edges parts next)
 
-  pub at_join : (e : Expr) (width next : ℕ) (parts read : List Expr) → e ≡ expr.Join parts → read ≡ parts
+  pub at_join : (width next : ℕ) {e : Expr} {parts read : List Expr} → e ≡ expr.Join parts → read ≡ parts
       → expression m wires e width next ≡ of_join m wires read width next
   unfolding expression
-  at_join e width next parts read is read_is =
+  at_join width next {e} {parts} {read} is read_is =
       ap (λ e. expression m wires e width next) (is ∙ sym (expr.rolls-Join parts))
       ∙ ap (λ (v : AtWidth). v width next) (para-roll-Expr AtWidth (lowered_at m wires) (Expr-F.Join parts))
       ∙ ap (λ (it : Lowered). lowered it.nodes (extended width it.edges)) (parts_is parts next)
       ∙ ap (λ parts. of_join m wires parts width next) (sym read_is)
 
-  pub at_repeat : (e : Expr) (width next count : ℕ) (parts read : List Expr) → e ≡ expr.Repeat count parts → read ≡ parts
+  pub at_repeat : (width next : ℕ) {e : Expr} {count : ℕ} {parts read : List Expr} → e ≡ expr.Repeat count parts → read ≡ parts
       → expression m wires e width next ≡ of_repeat m wires count read width next
   unfolding expression
-  at_repeat e width next count parts read is read_is =
+  at_repeat width next {e} {count} {parts} {read} is read_is =
       ap (λ e. expression m wires e width next) (is ∙ sym (expr.rolls-Repeat count parts))
       ∙ ap (λ (v : AtWidth). v width next) (para-roll-Expr AtWidth (lowered_at m wires) (Expr-F.Repeat count parts))
       ∙ ap (λ (it : Lowered). lowered it.nodes (extended width (repeat count it.edges))) (parts_is parts next)

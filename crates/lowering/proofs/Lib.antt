@@ -15,5 +15,6 @@ pub mod RelationLemmas
 pub mod RemainsLemmas
 pub mod SelectLemmas
 pub mod SoundLemmas
+pub mod StepLemmas
 pub mod TurnLemmas
 pub mod WireLemmas

@@ -1,5 +1,5 @@
 -- Loops over what is left to lower.
-use Rattle.std.proofs.Common.{◌≡◌, ◌+◌, ◌≤◌, [], ◌++◌, List, length, arith, length-append, append_assoc, ap, sym, ◌∙◌}
+use Rattle.std.proofs.Common.{◌≡◌, ℕ, ◌+◌, ◌≤◌, [], ◌++◌, List, length, arith, length-append, append_assoc, ap, sym, ◌∙◌}
 use Rattle.std.proofs.lemmas.List.{append-nil}
 use Rattle.flat_net.specs.declared.edge.Edge.{Edge}
 use Rattle.flat_net.specs.declared.node.Node.{Node}
@@ -9,17 +9,25 @@ use Rattle.lowering.specs.Lowered.{Lowered, Lowering, after, lowered}
 
 -- ---- added nodes
 
+abbrev behind : ℕ → List Node → Added
+behind first nodes = record { first = first; nodes = nodes }
+
 pub next_of_more : (added : Added) (more : Lowered) → next_of (with_more added more) ≡ after (next_of added) more
 next_of_more added more = omega (arith, length-append added.nodes more.nodes)
 
 pub more_twice : (added : Added) (first rest : Lowered) → with_more (with_more added first) rest ≡ with_more added (continued first rest)
-more_twice added first rest = ap (λ (nodes : List Node). let it : Added = record { first = added.first; nodes = nodes } in it) (append_assoc added.nodes first.nodes rest.nodes)
+more_twice added first rest = ap (behind added.first) (append_assoc added.nodes first.nodes rest.nodes)
 
 pub more_none : (added : Added) (edges : List Edge) → with_more added (lowered [] edges) ≡ added
-more_none added edges = ap (λ (nodes : List Node). let it : Added = record { first = added.first; nodes = nodes } in it) (append-nil added.nodes)
+more_none added edges = ap (behind added.first) (append-nil added.nodes)
 
 pub more_ended : (added : Added) (first : Lowered) → with_more added (continued first (lowered [] [])) ≡ with_more added first
 more_ended added first = ap (λ (nodes : List Node). with_more added (lowered nodes first.edges)) (append-nil first.nodes)
+
+-- With the same nodes both come to as many.
+pub same_count : (now start : Added) (left whole : Lowered) → with_more now left ≡ with_more start whole
+    → after (next_of now) left ≡ after (next_of start) whole
+same_count now start left whole is = sym (next_of_more now left) ∙ ap next_of is ∙ next_of_more start whole
 
 -- ---- a loop
 
@@ -62,9 +70,7 @@ module _ (so_far : List Edge) (now start : Added) (left whole : Lowering) where
   pub within : (first rest : Lowered) → left (next_of now) ≡ continued first rest → Remains so_far now start left whole
       → after (next_of now) first ≤ after (next_of start) (whole (next_of start))
   within first rest parts remains =
-      let count : next_of (with_more now (left (next_of now))) ≡ next_of (with_more start (whole (next_of start))) = ap next_of remains.nodes in
-      let left_count : next_of (with_more now (left (next_of now))) ≡ after (next_of now) (left (next_of now)) = next_of_more now (left (next_of now)) in
-      let whole_count : next_of (with_more start (whole (next_of start))) ≡ after (next_of start) (whole (next_of start)) = next_of_more start (whole (next_of start)) in
+      let count = same_count now start (left (next_of now)) (whole (next_of start)) remains.nodes in
       let parts_count : length (left (next_of now)).nodes ≡ length first.nodes + length rest.nodes =
       ap (λ (part : Lowered). length part.nodes) parts ∙ length-append first.nodes rest.nodes in
       omega arith

@@ -57,7 +57,7 @@ name_split m name bit below =
     ∙ map-append (bit_of name) (range_with_len 0 bit) ((0 + bit) ∷ range_with_len (0 + bit + 1) (bit_count m name - bit - 1))
     ∙ ap (λ n. map (bit_of name) (range_with_len 0 bit) ++ bit_of name n ∷ map (bit_of name) (range_with_len (n + 1) (bit_count m name - bit - 1))) place
 
-and_false : (b c : Bool) → c ≡ false → (b && c) ≡ false
+pub and_false : (b c : Bool) → c ≡ false → (b && c) ≡ false
 and_false true c is = is
 and_false false c is = refl
 
@@ -65,7 +65,7 @@ pub or_false : (b c : Bool) → b ≡ false → c ≡ false → (b || c) ≡ fal
 or_false true c b_is c_is = b_is
 or_false false c b_is c_is = c_is
 
-differ : (n k : ℕ) → k < n → (n == k) ≡ false
+pub differ : (n k : ℕ) → k < n → (n == k) ≡ false
 differ n k below = by (n == k) refl
   where
     by : (b : Bool) → (n == k) ≡ b → b ≡ false
@@ -90,16 +90,16 @@ name_differs name other bit low (suc count) is =
     (ap (λ b. b && (bit == low)) is)
     (name_differs name other bit (low + 1) count is)
 
-or_left_false : (b c : Bool) → (b || c) ≡ false → b ≡ false
+pub or_left_false : (b c : Bool) → (b || c) ≡ false → b ≡ false
 or_left_false true c is = is
 or_left_false false c is = refl
 
-or_right_false : (b c : Bool) → (b || c) ≡ false → c ≡ false
+pub or_right_false : (b c : Bool) → (b || c) ≡ false → c ≡ false
 or_right_false true c is = absurd (cc)
 or_right_false false c is = is
 
 -- nor one of other names
-names_differ : (m : Module) (kept : Text → Bool) (name : Text) (bit : ℕ) (others : List Text) → list_any (bytes_eq name) others ≡ false
+pub names_differ : (m : Module) (kept : Text → Bool) (name : Text) (bit : ℕ) (others : List Text) → list_any (bytes_eq name) others ≡ false
     → list_any (same_bit (bit_of name bit)) (bits_of m (filter kept others)) ≡ false
 names_differ m kept name bit [] none = refl
 names_differ m kept name bit (other ∷ others) none =

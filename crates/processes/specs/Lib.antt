@@ -1,2 +1,4 @@
+pub mod Carried
 pub mod Means
+pub mod Numbers
 pub mod Statements

@@ -1,4 +1,15 @@
-//! What the statements of an `always` give to registers, as nodes and edges.
+//! What statements give to registers, as edges.
 #![tactic(auto)]
 
+mod assigned;
+mod branches;
+mod choices;
 pub mod laws;
+mod numbers;
+mod run;
+mod sets;
+mod sorting;
+mod statements;
+mod writing;
+
+pub use statements::lower_statement;

@@ -5,6 +5,8 @@ use Rattle.lowering.proofs.edges.constants.Goals as goal
 
 pub loop-i-preserved : goal.loop-i-preserved
 loop-i-preserved c =
-    let next : map constant (drop c.loop-i.i c.args.bits.now) ≡ constant c.get.result ∷ map constant (drop (c.loop-i.i + 1) c.args.bits.now) =
-    ap (map constant) (next_found c.args.bits.now c.loop-i.i c.get.result c.get.ensures) in
+    let bits = c.args.bits.now in
+    let i = c.loop-i.i in
+    let next : map constant (drop i bits) ≡ constant c.get.result ∷ map constant (drop (i + 1) bits) =
+    ap (map constant) (next_found bits i c.get.result c.get.ensures) in
     grind (arith, append_assoc)

@@ -15,7 +15,8 @@ returns-in_err-so_far-clause-fault c =
     let now = c.loop-bit.nodes in
     let bits = c.args.bits.now in
     let i = c.loop-bit.bit-index in
-    let fold : List Edge → ℕ → Lowered = λ bits next. folded_from (gate_of c.args.gate) c.loop-bit.so_far (map (turned c.args.turn) bits) next in
+    let fold : List Edge → ℕ → Lowered =
+    λ bits next. folded_from (gate_of c.args.gate) c.loop-bit.so_far (map (turned c.args.turn) bits) next in
     let bit = get_or bits i c.args.first in
     let node = gate_of c.args.gate c.loop-bit.so_far (turned c.args.turn bit) in
     let rest = folded_from (gate_of c.args.gate) (plain (next_of now)) (map (turned c.args.turn) (drop (i + 1) bits)) (next_of now + 1) in

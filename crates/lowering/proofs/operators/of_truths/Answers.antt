@@ -16,6 +16,7 @@ returns-clause-nodes c =
     let other = c.in_ok-right.right ∷ [] in
     let mid = c.any_bit.new.nodes in
     let last = c.any_bit-2.new.nodes in
-    then_nodes left (λ left. and_then right (all_paired pairing left)) one c.args.nodes.now mid c.in_ok-left.ensures.nodes c.in_ok-left.ensures.edges _
+    then_nodes left (λ left. and_then right (all_paired pairing left)) one c.args.nodes.now mid
+    c.in_ok-left.ensures.nodes c.in_ok-left.ensures.edges _
     (then_nodes right (all_paired pairing one) other mid last c.in_ok-right.ensures.nodes c.in_ok-right.ensures.edges _
     (c.in_ok-pair.ensures.nodes ∙ sym (more_ended last (paired pairing c.in_ok-left.left c.in_ok-right.right (next_of last)))))

@@ -22,7 +22,8 @@ returns-in_err-edge-clause-fault c =
     let parts =
     at_drop_more (λ edges. all_paired pairing edges (drop i right) next) left i zero_edge (omega arith)
     ∙ at_drop_more (λ edges. all_paired pairing (get_or left i zero_edge ∷ drop (i + 1) left) edges next) right i zero_edge (omega arith) in
-    let le = within c.loop-i.edges now c.args.nodes.now (all_paired pairing (drop i left) (drop i right)) _ first rest parts c.loop-i.invariant in
+    let le = within c.loop-i.edges now c.args.nodes.now (all_paired pairing (drop i left) (drop i right)) _ first rest parts
+    c.loop-i.invariant in
     excused (after next first) _ c.from_residual.result _ c.from_residual.ensures.1 c.in_err-edge.ensures.fault le
 
 pub returns-clause-nodes : goal.returns-clause-nodes
