@@ -1,9 +1,17 @@
 pub mod DriveLemmas
 pub mod DriverLemmas
 pub mod GivenLemmas
+pub mod InsideItems
+pub mod InsideLists
+pub mod InsideLowered
+pub mod InsideStatements
 pub mod MeansLemmas
+pub mod NetLemmas
 pub mod NoneLemmas
+pub mod OrderExprLemmas
+pub mod OrderItemLemmas
 pub mod OrderLemmas
+pub mod OrderStatementLemmas
 pub mod PlacesLemmas
 pub mod PortLemmas
 pub mod StandBits
@@ -11,6 +19,3 @@ pub mod StandLists
 pub mod StandNodes
 pub mod StandValues
 pub mod Stands
-pub mod OrderExprLemmas
-pub mod OrderStatementLemmas
-pub mod OrderItemLemmas

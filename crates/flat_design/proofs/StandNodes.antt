@@ -22,7 +22,7 @@ use Rattle.flat_design.proofs.StandLists.{behind, flat_at, in_front, range_has}
 
 -- ---- the first nodes
 
-source_count : (inputs registers : ℕ) → length (sources inputs registers) ≡ 1 + inputs + registers
+pub source_count : (inputs registers : ℕ) → length (sources inputs registers) ≡ 1 + inputs + registers
 source_count inputs registers =
     let all : length (map Input (range_with_len 0 inputs) ++ map Reg (range_with_len 0 registers))
     ≡ length (map Input (range_with_len 0 inputs)) + length (map Reg (range_with_len 0 registers)) =
@@ -79,7 +79,7 @@ module _ (setting : Setting) where
       (λ instance. sym (length-map (driven_bits (is_top instance) instance.definition) (driven_node whole instance)))
       (instances setting) i)
 
-  driven_count : (whole : Whole) → length (driven_nodes setting whole) ≡ length (driven_keys setting)
+  pub driven_count : (whole : Whole) → length (driven_nodes setting whole) ≡ length (driven_keys setting)
   driven_count whole =
       count_all (driven_nodes_in whole) (instances setting)
       ∙ driven_place whole (length (instances setting))

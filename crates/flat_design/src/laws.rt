@@ -1,5 +1,6 @@
 //! What the definition of the flat netlist says of the meaning.
 ghost use Rattle.flat_design.specs.Means.{MeansDrives};
+ghost use Rattle.flat_design.specs.Net.{FlatIsNet};
 ghost use Rattle.flat_design.specs.Order.{ExpressionsAreOrdered};
 ghost use Rattle.flat_design.specs.Values.{FlatHasValues};
 
@@ -16,4 +17,9 @@ pub fn values()
 /// The nodes of expressions read nodes before them, so that what reads itself does so through the node of a bit.
 pub fn order()
     ensures { ExpressionsAreOrdered }
+{}
+
+/// The flat netlist of a design is a net: its sources stand in front, and every edge names a node.
+pub fn is_net()
+    ensures { FlatIsNet }
 {}
