@@ -5,8 +5,10 @@ pub mod InsideItems
 pub mod InsideLists
 pub mod InsideLowered
 pub mod InsideStatements
+pub mod KnownLemmas
 pub mod MeansLemmas
 pub mod NetLemmas
+pub mod NextLemmas
 pub mod NoneLemmas
 pub mod OrderExprLemmas
 pub mod OrderItemLemmas

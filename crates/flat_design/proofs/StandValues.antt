@@ -37,7 +37,7 @@ use Rattle.flat_design.proofs.Stands.{HasEntries, IsClocked, Stands, key_stands}
 
 -- ---- values of nodes
 
-holds_each : (rel : Relation) (read : Reading) (state row : List Bool) (next : ℕ) (nodes : List Node)
+pub holds_each : (rel : Relation) (read : Reading) (state row : List Bool) (next : ℕ) (nodes : List Node)
     → ((k n : ℕ) (node : Node) → n ≡ next + k → slice_get nodes k ≡ Some node → rel (node_value state row read node) (read n))
     → Holds rel read state row next nodes
 holds_each rel read state row next [] each = tt
@@ -49,17 +49,17 @@ holds_each rel read state row next (node ∷ nodes) each = (
 module _ (means : MeansDrives) (setting : Setting) (sound : IsSound setting) (gates : design_is_by_grammar setting.design ≡ true)
     (clocked : IsClocked setting) (state row : List Bool) (entries : HasEntries setting state row) where
   -- the value of a node
-  abbrev node_has : Reading
+  abbrev pub node_has : Reading
   node_has = node_value_of (flat setting) state row
 
   -- the same within so many steps
   abbrev steps_have : ℕ → Reading
   steps_have steps = within (flat setting).nodes state row steps
 
-  abbrev has : Key → Option Bool
+  abbrev pub has : Key → Option Bool
   has key = value setting state row key
 
-  node_is : (number : ℕ) (node : Node) → slice_get (flat setting).nodes number ≡ Some node
+  pub node_is : (number : ℕ) (node : Node) → slice_get (flat setting).nodes number ≡ Some node
       → node_has number ≡ node_value state row node_has node
   node_is number node there =
       node_value_of_fixed (flat setting) state row number ∙ ap (option_and_then (node_value state row node_has)) there
@@ -149,7 +149,7 @@ module _ (means : MeansDrives) (setting : Setting) (sound : IsSound setting) (ga
 
   -- ---- both
 
-  bit_value : (key : Key) → IsBitOf setting key → has key ≡ edge_value node_has (edge_of setting key)
+  pub bit_value : (key : Key) → IsBitOf setting key → has key ≡ edge_value node_has (edge_of setting key)
   bit_value key is =
       equal_by_below (has key) (edge_value node_has (edge_of setting key)) (up (length (all_keys setting)) key)
       (down (length (flat setting).nodes) key is)

@@ -3,6 +3,7 @@ pub mod Instances
 pub mod Items
 pub mod Means
 pub mod Net
+pub mod Next
 pub mod Order
 pub mod Sizes
 pub mod Values

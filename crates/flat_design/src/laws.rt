@@ -1,6 +1,7 @@
 //! What the definition of the flat netlist says of the meaning.
 ghost use Rattle.flat_design.specs.Means.{MeansDrives};
 ghost use Rattle.flat_design.specs.Net.{FlatIsNet};
+ghost use Rattle.flat_design.specs.Next.{FlatHasNext};
 ghost use Rattle.flat_design.specs.Order.{ExpressionsAreOrdered};
 ghost use Rattle.flat_design.specs.Values.{FlatHasValues};
 
@@ -22,4 +23,9 @@ pub fn order()
 /// The flat netlist of a design is a net: its sources stand in front, and every edge names a node.
 pub fn is_net()
     ensures { FlatIsNet }
+{}
+
+/// Where all bits of a design have values, a next edge that has one has the register's bit after the cycle.
+pub fn next()
+    ensures { FlatHasNext }
 {}
