@@ -4,12 +4,10 @@ pub mod BitLemmas
 pub mod CarryLemmas
 pub mod ChoiceLemmas
 pub mod LawLemmas
-pub mod LeftLemmas
 pub mod NumberLemmas
 pub mod OrderLemmas
 pub mod ProcessLemmas
 pub mod PutLemmas
-pub mod RunLemmas
 pub mod SortLemmas
 pub mod StatementLemmas
 pub mod WriteLemmas

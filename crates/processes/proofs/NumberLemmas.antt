@@ -1,12 +1,9 @@
 -- The numbers of bits among the register bits.
-use Rattle.std.proofs.Common.{◌≡◌, ◌≤◌, ◌<◌, ◌+◌, ◌-◌, ℕ, zero, suc, List, [], ◌∷◌, ◌++◌, Bool, true, false, ◌||◌, ◌&&◌, cond, Option, None, Some, IfSome, is_some, not, unwrap_or, refl, ap, sym, ◌∙◌, arith, append_assoc, filter, flat_map, map, reverse}
-use Rattle.std.proofs.lemmas.Grind.{flat_map-append}
+use Rattle.std.proofs.Common.{◌≡◌, ◌≤◌, ◌<◌, ◌+◌, ℕ, List, [], ◌∷◌, Bool, true, false, ◌||◌, ◌&&◌, cond, Option, None, Some, IfSome, is_some, not, unwrap_or, refl, ap, sym, ◌∙◌, arith, filter}
 use Rattle.std.proofs.lemmas.Iterator.Adapters.{position_from-zero}
-use Rattle.std.proofs.lemmas.List.{append-nil, map-append, reverse-append}
-use Rattle.std.proofs.lemmas.List.Folds.{flat_map-map, list_any-append}
-use Rattle.std.proofs.lemmas.List.FromFn.{map-range_with_len_more}
+use Rattle.std.proofs.lemmas.List.Folds.{list_any-append}
 use Rattle.std.proofs.lemmas.Slice.Eq.{bytes_eq-Decides}
-use Rattle.std.specs.List.{list_any, position, position_from, range_with_len}
+use Rattle.std.specs.List.{list_any, position, position_from}
 use Rattle.std.specs.Option.{option_map}
 use Rattle.std.specs.Str.{bytes_eq}
 use Rattle.bm_base.specs.declared.range.Range.{Range}
@@ -17,13 +14,13 @@ use Rattle.numbering.proofs.BitLemmas.{name_differs, or_false}
 use Rattle.numbering.specs.declared.place.Place.{Place}
 use Rattle.numbering.specs.declared.place.Place.TheVariants as place
 use Rattle.numbering.specs.Places.{IsPlace, IsWithinNodes, Placing}
-use Rattle.processes.specs.Numbers.{in_registers, number_among, number_at, numbers_down}
+use Rattle.targets.specs.Numbers.{number_at}
+use Rattle.processes.specs.Numbers.{in_registers, number_among}
 use Rattle.vlog_tree.specs.declared.design.Module.{Module}
-use Rattle.vlog_tree.specs.declared.left.Left.{Left}
 use Rattle.vlog_tree.specs.Meaning.Keys.{bit_count}
-use Rattle.vlog_tree.specs.Meaning.Lefts.{beside, bit_of, each_bit, left_bits, same_bit}
+use Rattle.vlog_tree.specs.Meaning.Lefts.{bit_of, same_bit}
 use Rattle.vlog_tree.specs.Meaning.Names.{is_input, is_register, names}
-use Rattle.vlog_tree.specs.Meaning.Ranges.{bits_from, range_of, span}
+use Rattle.vlog_tree.specs.Meaning.Ranges.{range_of, span}
 use Rattle.vlog_tree.specs.Meaning.Uses.{Text}
 
 -- ---- a bit that is no register
@@ -98,70 +95,3 @@ no_bits m name none = by (range_of m name) none
     by : (range : Option Range) → false ≡ is_some range → (bit : ℕ) → bit < unwrap_or (option_map span range) 0 → ⊥
     by None none bit below = omega (arith, below)
     by (Some range) none bit below = absurd (cc)
-
--- ---- the bits of a run
-
-each_numbered : (m : Module) (name : Text) (first : Option ℕ)
-    → ((bit : ℕ) → bit < bit_count m name → number_among m (bit_of name bit) ≡ number_at first bit)
-    → (low width : ℕ) → low + width ≤ bit_count m name
-    → map (number_among m) (map (bit_of name) (range_with_len low width)) ≡ map (number_at first) (range_with_len low width)
-each_numbered m name first numbered low zero within = refl
-each_numbered m name first numbered low (suc width) within =
-    let one : number_among m (bit_of name low) ≡ number_at first low = numbered low (omega (arith, within)) in
-    let rest : map (number_among m) (map (bit_of name) (range_with_len (low + 1) width)) ≡ map (number_at first) (range_with_len (low + 1) width) =
-    each_numbered m name first numbered (low + 1) width (omega (arith, within)) in
-    λ j. one j ∷ rest j
-
-pub run_down : (m : Module) (name : Text) (first : Option ℕ)
-    → ((bit : ℕ) → bit < bit_count m name → number_among m (bit_of name bit) ≡ number_at first bit)
-    → (low width : ℕ) → low + width ≤ bit_count m name
-    → numbers_down m (each_bit (bits_from name low width)) ≡ reverse (map (number_at first) (range_with_len low width))
-unfolding numbers_down
-run_down m name first numbered low width within = ap reverse (each_numbered m name first numbered low width within)
-
--- ---- the bits of parts
-
-all_down : {X Y : Type 0} (f : X → Y) (lists : List (List X))
-    → reverse (map f (flat_map (λ list. list) (reverse lists))) ≡ flat_map (λ list. reverse (map f list)) lists
-all_down f [] = refl
-all_down {X = X} f (list ∷ lists) =
-    let rest : List X = flat_map (λ list. list) (reverse lists) in
-    ap (λ lists. reverse (map f (flat_map (λ list. list) lists))) (reverse-append (list ∷ []) lists)
-    ∙ ap (λ bits. reverse (map f bits)) (flat_map-append (λ list. list) (reverse lists) (list ∷ []))
-    ∙ ap (λ bits. reverse (map f (rest ++ bits))) (append-nil list)
-    ∙ ap reverse (map-append f rest list)
-    ∙ reverse-append (map f rest) (map f list)
-    ∙ ap (λ numbers. reverse (map f list) ++ numbers) (all_down f lists)
-
-pub join_down : (m : Module) (parts : List Left)
-    → numbers_down m (beside (map (left_bits m) parts)) ≡ flat_map (λ part. numbers_down m (left_bits m part)) parts
-unfolding numbers_down
-join_down m parts =
-    all_down (number_among m) (map (left_bits m) parts) ∙ flat_map-map (λ list. reverse (map (number_among m) list)) (left_bits m) parts
-
-pub none_down : (m : Module) → numbers_down m [] ≡ []
-unfolding numbers_down
-none_down m = refl
-
--- ---- one number more, from the highest down
-
-down_less : (first : Option ℕ) (low width : ℕ) → 0 < width
-    → reverse (map (number_at first) (range_with_len low width))
-    ≡ number_at first (low + (width - 1)) ∷ reverse (map (number_at first) (range_with_len low (width - 1)))
-down_less first low width some =
-    let count : width ≡ width - 1 + 1 = omega arith in
-    ap (λ n. reverse (map (number_at first) (range_with_len low n))) count
-    ∙ ap reverse (map-range_with_len_more (number_at first) low (width - 1) (low + (width - 1)) refl)
-    ∙ reverse-append (map (number_at first) (range_with_len low (width - 1))) (number_at first (low + (width - 1)) ∷ [])
-
-pub less_taken : (numbers more initial : List (Option ℕ)) (first : Option ℕ) (low width i : ℕ) (number : Option ℕ) → i < width
-    → more ≡ numbers ++ number ∷ [] → number ≡ number_at first (low + (width - i - 1))
-    → numbers ++ reverse (map (number_at first) (range_with_len low (width - i))) ≡ initial
-    → more ++ reverse (map (number_at first) (range_with_len low (width - (i + 1)))) ≡ initial
-less_taken numbers more initial first low width i number within more_is is so_far =
-    let count : width - (i + 1) ≡ width - i - 1 = omega arith in
-    ap (λ numbers. numbers ++ reverse (map (number_at first) (range_with_len low (width - (i + 1))))) more_is
-    ∙ append_assoc numbers (number ∷ []) (reverse (map (number_at first) (range_with_len low (width - (i + 1)))))
-    ∙ (λ j. numbers ++ (is j ∷ reverse (map (number_at first) (range_with_len low (count j)))))
-    ∙ ap (λ rest. numbers ++ rest) (sym (down_less first low (width - i) (omega (arith, within))))
-    ∙ so_far

@@ -8,6 +8,7 @@ use Rattle.flat_net.specs.declared.edge.Edge.{Edge}
 use Rattle.flat_net.specs.Edges.{zero_edge}
 use Rattle.numbering.specs.Bits.{register_bits}
 use Rattle.numbering.proofs.BitLemmas.{first_at, or_left_false, or_right_false}
+use Rattle.targets.specs.Numbers as targets
 use Rattle.processes.specs.Numbers.{edges_at, number_among, numbers_down, numbers_of, ordered_numbers, places_from, put, written, written_from}
 use Rattle.processes.specs.Statements.{Registers, ordered, replaced}
 use Rattle.processes.proofs.ApartLemmas.{Apart, bit_itself, bits_same, none_before, registers_apart, same_back}
@@ -105,7 +106,7 @@ written_bits m bits edges before =
     written_are m 0 bits edges before ∙ ap (λ change. map change (register_bits m)) (λ j bit. replaced_is bits edges before bit j)
 
 pub down_bits : (m : Module) (bits : List Bit) → reverse (numbers_down m bits) ≡ numbers_of m bits
-unfolding numbers_down
+unfolding targets.numbers_down
 down_bits m bits = reverse-reverse (numbers_of m bits)
 
 -- ---- bits in their order

@@ -1,16 +1,14 @@
 -- Bits of a module by their numbers among its register bits.
-use Rattle.std.specs.Prelude.{ℕ, ◌+◌, ◌≡◌, ◌==◌, ◌||◌, List, [], ◌∷◌, Bool, false, Option, None, Some, cond, map, position, reverse, slice_index_or, slice_set}
+use Rattle.std.specs.Prelude.{ℕ, ◌+◌, ◌≡◌, ◌==◌, ◌||◌, List, [], ◌∷◌, Bool, false, Option, None, Some, cond, map, position, slice_index_or, slice_set}
 use Rattle.std.specs.List.{list_any}
 use Rattle.flat_net.specs.declared.edge.Edge.{Edge}
 use Rattle.flat_net.specs.Edges.{zero_edge}
 use Rattle.numbering.specs.Bits.{register_bits}
 use Rattle.numbering.specs.declared.place.Place.{Place}
 use Rattle.numbering.specs.declared.place.Place.TheVariants.{Register}
-use Rattle.processes.specs.declared.run.Run.{Run}
+use Rattle.targets.specs.Numbers as targets
 use Rattle.vlog_tree.specs.declared.design.Module.{Module}
 use Rattle.vlog_tree.specs.Meaning.Lefts.{Bit, same_bit}
-use Rattle.vlog_tree.specs.Meaning.Ranges.{Bits, bits_from}
-use Rattle.vlog_tree.specs.Meaning.Uses.{Text}
 
 -- which of the register bits a bit is
 abbrev pub number_among : Module → Bit → Option ℕ
@@ -20,22 +18,13 @@ abbrev pub numbers_of : Module → List Bit → List (Option ℕ)
 numbers_of m bits = map (number_among m) bits
 
 -- from the last to the first
-unfoldable pub numbers_down : Module → List Bit → List (Option ℕ)
-numbers_down m bits = reverse (numbers_of m bits)
-
--- the number of a bit of a name, whose first bit has this one
-abbrev pub number_at : Option ℕ → ℕ → Option ℕ
-number_at None bit = None
-number_at (Some first) bit = Some (first + bit)
+abbrev pub numbers_down : Module → List Bit → List (Option ℕ)
+numbers_down m bits = targets.numbers_down (number_among m) bits
 
 -- the first number of a name at a place, if it is a register
 abbrev pub in_registers : Place → Option ℕ
 in_registers (Register first) = Some first
 in_registers other = None
-
--- the bits of a name that stand in a run
-abbrev pub bits_of_run : Text → Run → Bits
-bits_of_run name run = bits_from name run.low run.width
 
 -- ---- writing
 

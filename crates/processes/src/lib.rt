@@ -6,7 +6,6 @@ mod branches;
 mod choices;
 pub mod laws;
 mod numbers;
-mod run;
 mod sets;
 mod sorting;
 mod statements;

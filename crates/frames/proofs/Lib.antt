@@ -1,0 +1,8 @@
+mod AtLemmas
+mod CountLemmas
+mod FoundLemmas
+mod FrameLemmas
+mod GroundLemmas
+mod SizeLemmas
+mod StartLemmas
+mod TopLemmas

@@ -1,0 +1,4 @@
+pub mod Found
+pub mod Framed
+pub mod Numbered
+pub mod Standing

@@ -1,0 +1,4 @@
+pub mod LeftLemmas
+pub mod RunLemmas
+pub mod NumberLemmas
+pub mod TargetLemmas
