@@ -1,11 +1,11 @@
 mod Apart
 mod Exprs
 mod GrammarLemmas
-mod Instances
+pub mod Instances
 mod Items
-mod Law
+pub mod Law
 mod Lefts
-mod Members
+pub mod Members
 mod Naming
-mod Reaching
-mod Registers
+pub mod Reaching
+pub mod Registers

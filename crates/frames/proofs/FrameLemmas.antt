@@ -1,7 +1,8 @@
 -- The edges of the names of an instance, by the places of its module.
-use Rattle.std.proofs.Common.{◌≡◌, ℕ, ◌+◌, ◌<◌, Bool, true, false, not, ◌&&◌, ◌||◌, Option, Some, None, is_some, refl, ◌∙◌, ap, arith, bytes_eq, filter, option_map, unwrap_or}
+use Rattle.std.proofs.Common.{◌≡◌, ℕ, ◌+◌, ◌<◌, Bool, true, false, not, ◌&&◌, ◌||◌, Option, Some, None, is_some, refl, sym, ◌∙◌, ap, arith, bytes_eq, filter, option_map, unwrap_or}
 use Rattle.std.specs.Option.{IfSome}
 use Rattle.std.proofs.lemmas.Bool.{false≢true}
+use Rattle.std.proofs.lemmas.Option.{none-some}
 use Rattle.std.proofs.lemmas.Slice.Eq.{bytes_eq-Decides}
 use Rattle.flat_net.specs.Edges.{plain}
 use Rattle.lowering.specs.Wiring.{edge_in}
@@ -97,3 +98,17 @@ driven_numbers it name bit few (Some (place.Register first)) known is other =
     no_driven it.definition (bit_of name bit) (is_some it.clock)
     (λ j. not (is.0 j || (is_some it.clock && is_input it.definition name)))
 driven_numbers it name bit few (Some (place.Driven first)) known is other = absurd (other first refl)
+
+-- ---- register bits
+
+pub register_wire : (it : Framed) → AreInside it → (bit : Bit) (place : ℕ) → number_in (register_bits it.placing.definition) bit ≡ Some place
+    → wires_of it bit.name bit.place ≡ plain (1 + it.inputs + it.first_register + place)
+register_wire it inside bit place at =
+    let m = it.placing.definition in
+    (λ j. edge_by it (no_input m bit it.placing.clock (λ _. inside.apart bit.name (named (is_register m bit.name) refl)) j) (at j)
+    (number_in (driven_bits (is_some it.placing.clock) m) bit))
+    ∙ ap plain {x = 1 + it.inputs + (it.first_register + place)} {y = 1 + it.inputs + it.first_register + place} (omega arith)
+  where
+    named : (b : Bool) → is_register it.placing.definition bit.name ≡ b → b ≡ true
+    named true is = refl
+    named false is = absurd (none-some place (sym (no_register it.placing.definition bit is) ∙ at))

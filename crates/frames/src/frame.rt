@@ -1,12 +1,13 @@
 //! The names of one instance.
-ghost use Rattle.std.specs.Prelude.{◌≡◌, ◌<◌, ◌≤◌, ◌+◌, ℕ, IfSome, None, Some};
+ghost use Rattle.std.specs.Prelude.{◌≡◌, ◌<◌, ◌≤◌, ◌+◌, ℕ, IfSome, None, Some, length};
 ghost use Rattle.std.specs.Option.{option_map};
 ghost use Rattle.bm_base.specs.declared.size.Size.TheVariants.{Nodes};
 ghost use Rattle.bm_base.specs.Size.{limit_of};
 ghost use Rattle.lowering.specs.Wiring.{IsWithin, edge_in};
-ghost use Rattle.numbering.specs.Places.{placed_driven};
+ghost use Rattle.flat_net.specs.Edges.{plain};
+ghost use Rattle.numbering.specs.Places.{placed_driven, placed_registers};
 ghost use Rattle.vlog_tree.specs.Meaning.Keys.{bit_count};
-ghost use Rattle.vlog_tree.specs.Meaning.Lefts.{bit_of, number_in};
+ghost use Rattle.vlog_tree.specs.Meaning.Lefts.{Bit, bit_of, number_in};
 ghost use Rattle.frames.specs.Framed.{AreInside, IsSmall, framed, wire_of, wires_of};
 
 use bm_base::Name;
@@ -66,6 +67,15 @@ impl<'f> Frame<'f> {
         ensures { result.now ≡ self.now.placing }
     {
         self.places
+    }
+
+    /// The number of the node of the first register bit. Those of the others follow, in the order of these bits.
+    pub fn first_register(&self) -> u32
+        ensures edges { (bit : Bit) (place : ℕ) → number_in (placed_registers self.now.placing) bit ≡ Some place
+            → wires_of self.now bit.name bit.place ≡ plain (result + place) }
+        ensures within { result + length (placed_registers self.now.placing) ≤ limit_of Nodes }
+    {
+        (1 + self.inputs + self.first_register) as u32
     }
 
     /// The place of the lowest bit of a name among all driven bits. Nothing where its bits are not driven.
