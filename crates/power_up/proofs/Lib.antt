@@ -1,0 +1,4 @@
+mod BitLemmas
+mod ChangeLemmas
+mod InstanceLemmas
+mod ValueLemmas
