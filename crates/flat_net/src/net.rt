@@ -62,7 +62,8 @@ impl FlatNet {
     }
 
     pub fn nodes(&self) -> &[Node]
-        ensures { result.now ≡ self.now.nodes }
+        ensures nodes { result.now ≡ self.now.nodes }
+        ensures net { IsNet self.now }
     {
         self.nodes.as_slice()
     }
