@@ -1,0 +1,9 @@
+mod AssignLemmas
+mod CarryLemmas
+mod EdgeLemmas
+mod FrameLemmas
+mod GateLemmas
+mod InstanceLemmas
+mod ItemLemmas
+mod LinkLemmas
+mod PortLemmas
