@@ -122,7 +122,7 @@ module _ (it : Numbered) (ready : IsReady (setting_with it)) where
 
 module _ (it : Numbered) (inputs : ℕ) (list : List Start) (end : Start) (are : AreFrames it inputs list end) (i : ℕ)
     (there : i < length (instances (setting_with it))) (items : List Start) (same : items ≡ list) where
-  start_is : slice_index_or items i (start_with 0 0) ≡ start_at (instances (setting_with it)) i
+  pub start_is : slice_index_or items i (start_with 0 0) ≡ start_at (instances (setting_with it)) i
   start_is =
       ap (λ items. slice_index_or items i (start_with 0 0)) (same ∙ are.starts.listed)
       ∙ get_or-map-range_with_len (start_at (instances (setting_with it))) 0 (length (instances (setting_with it))) i i (start_with 0 0) there (omega arith)

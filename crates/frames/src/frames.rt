@@ -3,6 +3,7 @@ ghost use Rattle.std.specs.Prelude.{◌≡◌, ◌<◌, ◌≤◌, ◌+◌, ℕ,
 ghost use Rattle.bm_base.specs.declared.size.Size.TheVariants.{Instances as instances_size, Nodes};
 ghost use Rattle.bm_base.specs.Size.{limit_of};
 ghost use Rattle.instances.specs.Shapes.{shapes_from, size_at};
+ghost use Rattle.numbering.specs.Frames.{driven_before, registers_before};
 ghost use Rattle.numbering.specs.Numbering.{driven_keys, first_of_expressions, key_in, wires_in};
 ghost use Rattle.numbering.specs.Numbers.{place_of};
 ghost use Rattle.numbering.specs.Places.{placed_driven};
@@ -14,9 +15,11 @@ ghost use Rattle.vlog_tree.specs.Meaning.Uses.{Text};
 ghost use Rattle.vlog_tree.specs.declared.design.Module.{Module};
 ghost use Rattle.frames.specs.Framed.{wires_of};
 ghost use Rattle.frames.specs.Numbered.{IsReady, Refuses, numbered, setting_with};
+ghost use Rattle.frames.specs.Standing.{start_at};
 
 use crate::frame::Frame;
 use crate::ground::Ground;
+use crate::start::Start;
 use crate::starts::{Starts, starts_of};
 use design_nets::DesignNets;
 use flat_net::FlatFault;
@@ -60,6 +63,13 @@ impl<'a> Frames<'a> {
         let ground = Ground::of(alloc, design, clock)?;
         let starts = starts_of(alloc, &ground)?;
         Ok(Frames { ground, starts })
+    }
+
+    /// The name of the top's clock.
+    pub fn clock(&self) -> &'a [u8]
+        ensures { result.now ≡ self.now.clock }
+    {
+        self.ground.clock()
     }
 
     /// How many instances there are.
@@ -106,6 +116,30 @@ impl<'a> Frames<'a> {
             → result ≡ place + size_at (shapes_from self.now.design greatest_depth m) place }
     {
         place + self.ground.size_at(place)
+    }
+
+    /// How many register bits the instances before the one at a place have.
+    pub fn registers_before(&self, place: usize) -> usize
+        requires { place < length (instances (setting_with self.now)) }
+        ensures { result ≡ registers_before (instances (setting_with self.now)) place }
+    {
+        self.start(place).registers
+    }
+
+    /// How many driven bits they have.
+    pub fn driven_before(&self, place: usize) -> usize
+        requires { place < length (instances (setting_with self.now)) }
+        ensures { result ≡ driven_before (instances (setting_with self.now)) place }
+    {
+        self.start(place).driven
+    }
+
+    // Where the bits of the instance at a place start.
+    fn start(&self, place: usize) -> Start
+        requires { place < length (instances (setting_with self.now)) }
+        ensures { result ≡ start_at (instances (setting_with self.now)) place }
+    {
+        self.starts.list.as_slice()[place]
     }
 
     /// The names of the instance at a place, with the edges of their bits.

@@ -68,6 +68,12 @@ impl<'a> Ground<'a> {
         })
     }
 
+    pub(crate) fn clock(&self) -> &'a [u8]
+        ensures { result.now ≡ self.now.clock }
+    {
+        self.clock
+    }
+
     pub(crate) fn len(&self) -> usize
         ensures count { result ≡ length (instances (setting_with self.now)) }
         ensures within { result ≤ limit_of instances_size }

@@ -42,7 +42,7 @@ same_definitions design (suc depth) instance =
     (λ child. down_from design depth (inside instance.path child))
     (λ child. same_definitions design depth (inside instance.path child)) (children design instance.definition))
 
-as_many : (design : Design) (depth : ℕ) (instance : Instance) →
+pub as_many : (design : Design) (depth : ℕ) (instance : Instance) →
     length (down_from design depth instance) ≡ length (shapes_from design depth instance.definition)
 as_many design depth instance =
     sym (length-map (down_from design depth instance) instance_definition) ∙ sym (ap length (same_definitions design depth instance))
@@ -156,19 +156,19 @@ located design (suc depth) instance (suc i) outer is =
 
 -- ---- children, one after another
 
-first_left : {X : Type 0} (xs : List X) (i : ℕ) (x : X) (rest : List X) → drop i xs ≡ x ∷ rest → slice_get xs i ≡ Some x
+pub first_left : {X : Type 0} (xs : List X) (i : ℕ) (x : X) (rest : List X) → drop i xs ≡ x ∷ rest → slice_get xs i ≡ Some x
 first_left [] zero x rest h = absurd (cc)
 first_left [] (suc i) x rest h = absurd (cc)
 first_left (y ∷ xs) zero x rest h = let e : y ≡ x = cc in ap Some e
 first_left (y ∷ xs) (suc i) x rest h = first_left xs i x rest h
 
-size_left : (shapes : List Shape) (i : ℕ) (shape : Shape) (rest : List Shape) → drop i shapes ≡ shape ∷ rest → size_at shapes i ≡ shape.size
+pub size_left : (shapes : List Shape) (i : ℕ) (shape : Shape) (rest : List Shape) → drop i shapes ≡ shape ∷ rest → size_at shapes i ≡ shape.size
 size_left [] zero shape rest h = absurd (cc)
 size_left [] (suc i) shape rest h = absurd (cc)
 size_left (s ∷ shapes) zero shape rest h = let e : s ≡ shape = cc in ap (λ it. it.size) e
 size_left (s ∷ shapes) (suc i) shape rest h = size_left shapes i shape rest h
 
-drop_on : {X : Type 0} (xs here rest : List X) (i n : ℕ) → drop i xs ≡ here ++ rest → length here ≡ n → drop (i + n) xs ≡ rest
+pub drop_on : {X : Type 0} (xs here rest : List X) (i n : ℕ) → drop i xs ≡ here ++ rest → length here ≡ n → drop (i + n) xs ≡ rest
 drop_on xs here rest i n h e = sym (drop-drop n i xs) ∙ ap (drop n) h ∙ drop_at here rest n e
 
 module _ (design : Design) (list : List Instance) (shapes : List Shape) (path : Path) (below : ℕ) where
@@ -216,7 +216,7 @@ StandIn design list shapes =
     (i : ℕ) (outer : Instance) → slice_get list i ≡ Some outer →
     ChildrenStand list shapes (i + 1) outer.path (children design outer.definition)
 
-next_left : {X : Type 0} (xs : List X) (i : ℕ) (x : X) (rest : List X) → drop i xs ≡ x ∷ rest → drop (i + 1) xs ≡ rest
+pub next_left : {X : Type 0} (xs : List X) (i : ℕ) (x : X) (rest : List X) → drop i xs ≡ x ∷ rest → drop (i + 1) xs ≡ rest
 next_left xs i x rest h = drop_on xs (x ∷ []) rest i 1 h refl
 
 stand_below : (design : Design) (depth : ℕ) (instance : Instance) (below i : ℕ) (outer : Instance) (later : List Instance)
@@ -257,7 +257,7 @@ all_stand design depth instance whole i outer is =
 
 -- ---- from the top
 
-from_top : (design : Design) (depth : ℕ) (top : Option Module) (m : Module) → top ≡ Some m →
+pub from_top : (design : Design) (depth : ℕ) (top : Option Module) (m : Module) → top ≡ Some m →
     flat_map (λ n. down_from design depth (record { path = []; definition = n })) (option_to_list top)
     ≡ down_from design depth (record { path = []; definition = m })
 from_top design depth top m named =

@@ -1,6 +1,6 @@
 pub mod BitLemmas
 mod KindLemmas
-mod KnownLemmas
+pub mod KnownLemmas
 pub mod NumberBitLemmas
 pub mod NumberEdgeLemmas
 pub mod NumberKeyLemmas

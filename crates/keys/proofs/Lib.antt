@@ -1,0 +1,4 @@
+mod BitLemmas
+mod KeyLemmas
+mod PathLemmas
+mod PlaceLemmas

@@ -1,0 +1,10 @@
+//! The bits for which the nodes of a flat netlist stand.
+#![tactic(auto)]
+
+mod found;
+mod holder;
+mod key;
+mod kind;
+mod path;
+
+pub use key::key_at;
