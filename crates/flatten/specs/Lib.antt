@@ -1,0 +1,4 @@
+pub mod Gathered
+pub mod Planned
+pub mod Ready
+pub mod Tested
