@@ -1,0 +1,4 @@
+pub mod BitLemmas
+pub mod EvaluationLemmas
+pub mod RowLemmas
+pub mod RunLemmas

@@ -1,0 +1,4 @@
+pub mod Evaluation
+pub mod Machine
+pub mod Rows
+pub mod States

@@ -1,0 +1,9 @@
+-- The states of a run.
+use Rattle.std.specs.Prelude.{◌+◌, List, Bool, length, map}
+use Rattle.std.specs.List.{range_with_len}
+use Rattle.trace_rows.specs.Machine.{Machine}
+use Rattle.trace_rows.specs.Run.{state_at}
+
+-- the states in which the cycles begin, and the one after the last row
+abbrev pub states_of : Machine → List (List Bool) → List (List Bool)
+states_of machine rows = map (state_at machine rows) (range_with_len 0 (length rows + 1))

@@ -1,0 +1,5 @@
+pub mod Faults
+pub mod Marks
+pub mod Orders
+pub mod Reach
+pub mod Walks
