@@ -5,12 +5,14 @@ use crate::deed::Deed;
 use crate::disk::on_disk;
 use crate::escape::decoded;
 use crate::files::Files;
+use crate::flat::said_of_flat;
 use crate::memory::in_memory;
 use crate::rows::said_of_rows;
 use crate::stage::Stage;
 use crate::tokens::said_of_tokens;
 use crate::tree::{said_of_design, said_of_scrap, said_of_tree, said_of_widths};
 use crate::trouble::Trouble;
+use elab::Names;
 use std::alloc::{AllocError, Global};
 use std::rt;
 
@@ -93,6 +95,7 @@ fn says(alloc: Global, asked: &Asked, files: &Files) -> Result<String, Trouble> 
         Asked::Deed(_) => Err(Trouble::Command),
         Asked::Tree(name) => says_tree(alloc, files, name),
         Asked::Widths(name) => says_widths(alloc, files, name),
+        Asked::Flat(name, names) => says_flat(alloc, files, name, names),
         Asked::Rows(name, signals) => says_rows(alloc, files, name, signals),
         Asked::Tokens(text) => says_tokens(alloc, text),
         Asked::Design(text) => says_design(alloc, text),
@@ -108,6 +111,11 @@ fn says_tree(alloc: Global, files: &Files, name: &str) -> Result<String, Trouble
 fn says_widths(alloc: Global, files: &Files, name: &str) -> Result<String, Trouble> {
     let source = files.get(name).ok_or(Trouble::File)?;
     Ok(said_of_widths(alloc, source)?)
+}
+
+fn says_flat(alloc: Global, files: &Files, name: &str, names: &Names) -> Result<String, Trouble> {
+    let source = files.get(name).ok_or(Trouble::File)?;
+    said_of_flat(alloc, source, names)
 }
 
 fn says_rows(alloc: Global, files: &Files, name: &str, signals: &str) -> Result<String, Trouble> {

@@ -1,5 +1,6 @@
 use crate::deed::Deed;
 use crate::trouble::Trouble;
+use elab::Names;
 use std::alloc::Global;
 
 /// A command over the files.
@@ -11,6 +12,8 @@ pub enum Asked {
     Tree(String),
     /// The width of each expression that a file assigns.
     Widths(String),
+    /// The flat netlist of a file, with these names of its top, clock and checker.
+    Flat(String, Names),
     /// The rows of a file of this name, of these signals.
     Rows(String, String),
     /// The tokens of a text.
@@ -30,9 +33,11 @@ impl Asked {
             Asked::Scrap(scrap, text) => {
                 Ok(Asked::Scrap(*scrap, text.replace(alloc, "WORD", word)?))
             }
-            Asked::Deed(_) | Asked::Tree(_) | Asked::Widths(_) | Asked::Rows(..) => {
-                Err(Trouble::Again)
-            }
+            Asked::Deed(_)
+            | Asked::Tree(_)
+            | Asked::Widths(_)
+            | Asked::Flat(..)
+            | Asked::Rows(..) => Err(Trouble::Again),
         }
     }
 }

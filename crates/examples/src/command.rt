@@ -5,6 +5,8 @@ use crate::deed::Deed;
 use crate::device::{Failing, Kind};
 use crate::escape::decoded;
 use crate::trouble::Trouble;
+use bm_base::Name;
+use elab::Names;
 use std::alloc::Global;
 
 /// What a step asks for.
@@ -71,6 +73,7 @@ fn read_asked(alloc: Global, verb: &str, rest: &str) -> Result<Asked, Trouble> {
         "append" => Ok(Asked::Deed(read_append(alloc, rest)?)),
         "tree" => Ok(Asked::Tree(text(alloc, rest)?)),
         "widths" => Ok(Asked::Widths(text(alloc, rest)?)),
+        "flat" => read_flat(alloc, rest),
         "rows" => read_rows(alloc, rest),
         "tokens" => Ok(Asked::Tokens(text(alloc, rest)?)),
         "design" => Ok(Asked::Design(text(alloc, rest)?)),
@@ -78,6 +81,21 @@ fn read_asked(alloc: Global, verb: &str, rest: &str) -> Result<Asked, Trouble> {
         "number" => Ok(Asked::Scrap(Scrap::Number, text(alloc, rest)?)),
         _ => Err(Trouble::Command),
     }
+}
+
+// `top.v top clk bad`
+fn read_flat(alloc: Global, rest: &str) -> Result<Asked, Trouble> {
+    let (name, rest) = rest.split_once(' ').ok_or(Trouble::Words)?;
+    let (top, rest) = rest.split_once(' ').ok_or(Trouble::Words)?;
+    let (clock, check) = rest.split_once(' ').ok_or(Trouble::Words)?;
+    let names = Names {
+        top: Name::new(alloc, top.as_bytes())?,
+        clock: Name::new(alloc, clock.as_bytes())?,
+        check: Name::new(alloc, check.as_bytes())?,
+        reset: None,
+        reset_cycles: 0,
+    };
+    Ok(Asked::Flat(text(alloc, name)?, names))
 }
 
 // `top.vcd clk a data[7:0]`

@@ -6,6 +6,9 @@ mod left;
 mod name;
 mod stmt;
 
+ghost use Rattle.std.specs.Prelude.{IfOk};
+ghost use Rattle.vlog_tree.specs.Spelling.{Spells};
+
 use crate::tree::design::put_design;
 use crate::tree::expr::put_expr;
 use std::alloc::{AllocError, Global};
@@ -14,16 +17,19 @@ use vlog_lexer::{LexFault, lex};
 use vlog_parse::{ParseFault, parse};
 use vlog_tree::{Design, Expr, Item, Module, width};
 
-// Why a text has no tree.
+/// Why a text has no tree.
 #[derive(Clone, Copy, Debug, PartialEq, Eq, Error)]
-enum NoTree {
+pub enum NoTree {
     #[error("{0}")]
     Tokens(LexFault),
     #[error("{0}")]
     Grammar(ParseFault),
 }
 
-fn design_of(alloc: Global, source: &[u8]) -> Result<Design, NoTree> {
+/// The tree of a netlist.
+pub fn design_of(alloc: Global, source: &[u8]) -> Result<Design, NoTree>
+    ensures { IfOk result (Spells source.now) }
+{
     match lex(alloc, source) {
         Err(fault) => Err(NoTree::Tokens(fault)),
         Ok(tokens) => match parse(alloc, &tokens) {

@@ -2,3 +2,4 @@ mod BitLemmas
 mod KeyLemmas
 mod PathLemmas
 mod PlaceLemmas
+mod PlannedLemmas

@@ -6,5 +6,7 @@ mod holder;
 mod key;
 mod kind;
 mod path;
+mod planned;
 
 pub use key::key_at;
+pub use planned::key_of;
