@@ -23,8 +23,18 @@ GNU_TIME = "/usr/bin/time"
 # A program that is measured beside it may ask for more memory than a machine has.
 MOST_MEMORY = 8 << 30
 
-# What the program answers to a netlist that it read to the end, that keeps the rules and that is not of the first form.
-FORM = "netlist refused: form\n"
+# What the program answers to a netlist that is accepted: it has no waveform to read.
+ACCEPTED = (5, "read fault\n")
+
+# What it answers to one with a size above its limit.
+SIZE_LIMITS = ["instances 1048576", "nodes 1048576", "registers 65536", "inputs 4096"]
+TOO_LARGE = [(7, f"limit: {limit}\n") for limit in SIZE_LIMITS]
+
+# What earlier programs answered to each of these netlists that keeps the rules.
+BEFORE = (3, "netlist refused: form\n")
+
+# Whichever of these comes, the netlist was read to the end and keeps the rules.
+KEPT = (ACCEPTED, *TOO_LARGE, BEFORE)
 
 # Its status where there is no memory, and that of a process that was ended for it.
 OUT_OF_MEMORY = (8, 137)
@@ -134,19 +144,19 @@ def wide_assignment(i):
 WIDE_REGISTER = TOP + "  reg [65535:0] w;\n  always @(posedge clk) begin\n"
 
 
-# Of each kind what comes first, the i-th of the pieces that follow, what comes last, and what is answered.
+# Of each kind what comes first, the i-th of the pieces that follow, what comes last, and what may be answered.
 KINDS = {
-    "many small items": (LIBRARY + TOP, cell, END, FORM),
-    "few long expressions": (TOP_WITH_WIRES, long_expression, END, FORM),
-    "operators at the limit": (TOP_WITH_WIRES, many_operators, END, FORM),
-    "deep nests at the limit": (TOP_WITH_WIRES, deep_nest, END, FORM),
-    "one long comment": (TOP + "/*\n", comment_line, "*/\n" + END, FORM),
-    "one long name": (LONG_NAMED, named_instance, ";\n" + END, FORM),
-    "names of one letter": (TOP + "  wire a", one_letter, ";\n" + END, "netlist refused: E4 top.a\n"),
-    "many instances": (INSTANCES, named_instance, ";\n" + END, FORM),
-    "many names": (TOP, driven_wire, END, FORM),
-    "wide names": (TOP, wide_wire, END, FORM),
-    "many assignments": (WIDE_REGISTER, wide_assignment, "end\n" + END, FORM),
+    "many small items": (LIBRARY + TOP, cell, END, KEPT),
+    "few long expressions": (TOP_WITH_WIRES, long_expression, END, KEPT),
+    "operators at the limit": (TOP_WITH_WIRES, many_operators, END, KEPT),
+    "deep nests at the limit": (TOP_WITH_WIRES, deep_nest, END, KEPT),
+    "one long comment": (TOP + "/*\n", comment_line, "*/\n" + END, KEPT),
+    "one long name": (LONG_NAMED, named_instance, ";\n" + END, KEPT),
+    "names of one letter": (TOP + "  wire a", one_letter, ";\n" + END, ((3, "netlist refused: E4 top.a\n"),)),
+    "many instances": (INSTANCES, named_instance, ";\n" + END, KEPT),
+    "many names": (TOP, driven_wire, END, KEPT),
+    "wide names": (TOP, wide_wire, END, KEPT),
+    "many assignments": (WIDE_REGISTER, wide_assignment, "end\n" + END, KEPT),
 }
 
 
@@ -189,7 +199,7 @@ def program_cost(program, netlist, kind, folder, runs):
         answer, cost = run([program, *words], folder)
         if answer[0] in OUT_OF_MEMORY:
             return None
-        if answer != (3, KINDS[kind][-1]):
+        if answer not in KINDS[kind][-1]:
             sys.exit(f"{program} answered {answer} to {kind}")
         costs.append(cost)
     return min(seconds for seconds, _ in costs), max(peak for _, peak in costs)

@@ -16,7 +16,7 @@ endmodule
 
 
 def netlist(inputs):
-    """A netlist of the first form with so many inputs, whose checker is never 1."""
+    """A netlist with so many inputs, whose checker is never 1."""
     return NETLIST.format(inputs=", ".join(f"input a{i}" for i in range(inputs)))
 
 

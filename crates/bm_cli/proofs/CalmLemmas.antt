@@ -12,8 +12,8 @@ use Rattle.bm_cli.specs.Commands.{writes_of}
 use Rattle.bm_cli.specs.Keeps.{Keeps, RefusesWords, is_fault}
 use Rattle.bm_cli.specs.Outside.{Outside, SomeRose, outside}
 use Rattle.bm_cli.specs.Prints.{Prints}
-use Rattle.bm_cli.specs.Verdict.{FailsReading}
-use Rattle.bm_cli.specs.Words.{AskNothing, Asks, Command, Inputs, inputs_of}
+use Rattle.bm_inputs.specs.Files.{FailsReading}
+use Rattle.bm_words.specs.Words.{AskNothing, Asks, Command, Inputs, inputs_of}
 
 nothing_counted : (name : List ℕ) → count_of empty name ≡ 0
 nothing_counted name = ap (λ found. unwrap_or found 0) (get-empty (slice_cmp nat_cmp) name)

@@ -6,28 +6,35 @@ use Rattle.bm_base.specs.Counts.{Rose}
 use Rattle.bm_base.specs.Held.{Held, holding}
 use Rattle.bm_base.specs.declared.status.Status.{Status}
 use Rattle.bm_base.specs.declared.status.Status.TheVariants as status
+use Rattle.netlists.specs.declared.fault.NetlistFault.{NetlistFault}
+use Rattle.netlists.specs.declared.fault.NetlistFault.TheVariants as fault
 use Rattle.vcd_header.specs.declared.fault.VcdFault.{VcdFault}
 use Rattle.vcd_header.specs.declared.fault.VcdFault.TheVariants as vcd
-use Rattle.bm_cli.specs.Answer.{waveform_status, line_of, read_fault_line, refusal_status, status_of}
+use Rattle.bm_files.proofs.FileLemmas.{bytes_under-holding}
+use Rattle.bm_inputs.specs.Counts.{OthersStay}
+use Rattle.bm_inputs.specs.Lines as inputs
+use Rattle.bm_inputs.specs.Lines.{netlist_status, read_fault_line, waveform_status}
+use Rattle.bm_inputs.specs.declared.stop.InputRefusal.{InputRefusal}
+use Rattle.bm_inputs.specs.declared.stop.InputRefusal.TheVariants.{Limit, Netlist, Waveform}
+use Rattle.bm_words.specs.Words.{Command, Inputs, Request, check, minimise}
+use Rattle.bm_cli.specs.Answer.{line_of, refusal_status, status_of}
 use Rattle.bm_cli.specs.Commands.{Answers, HasOneStatus, reads_of, writes_of}
 use Rattle.bm_cli.specs.Commands.Check.{Checks}
 use Rattle.bm_cli.specs.Commands.Minimise.{Minimises}
 use Rattle.bm_cli.specs.Ends.{CallCounts, Ends, Gives, IsOnTheWay}
 use Rattle.bm_cli.specs.Headline.{IsDone, SaysYes}
 use Rattle.bm_cli.specs.Keeps.{IsAnswered, IsOutOfMemory, IsUnprinted, IsUnread, IsUnwritten, Keeps, is_fault}
-use Rattle.bm_cli.specs.Outside.{OthersStay, Outside, Tells}
+use Rattle.bm_cli.specs.Outside.{Outside, Tells}
 use Rattle.bm_cli.specs.Prints.{GainsLine, Prints, PrintsEnd}
-use Rattle.bm_cli.specs.Words.{Command, Inputs, Request, check, minimise}
 use Rattle.bm_cli.specs.declared.answer.Answer.{Answer}
 use Rattle.bm_cli.specs.declared.answer.Answer.TheVariants.{Minimised, Accepted as Judged, Refused as Refusing}
 use Rattle.bm_cli.specs.declared.answer.Refusal.{Refusal}
-use Rattle.bm_cli.specs.declared.answer.Refusal.TheVariants.{Cut, Limit, Netlist, NoViolation, NotFirstAtLast, Waveform}
+use Rattle.bm_cli.specs.declared.answer.Refusal.TheVariants as why
 use Rattle.bm_cli.specs.declared.answer.Stop.{Stop}
 use Rattle.bm_cli.specs.declared.answer.Stop.TheVariants.{Refused, ReadFault, WriteFault, Memory}
-use Rattle.bm_files.proofs.FileLemmas.{bytes_under-holding}
 use Rattle.bm_cli.proofs.ToldLemmas.{unchanged}
 
--- The status of a refused waveform is one of two.
+-- The status of a refused waveform is one of two,
 by_waveform_status : (P : Status → Type 0) (why : VcdFault) → P status.Limit → P status.Waveform → P (waveform_status why)
 by_waveform_status P (vcd.Limit what) limit waveform = limit
 by_waveform_status P (vcd.Token at) limit waveform = waveform
@@ -41,19 +48,32 @@ by_waveform_status P vcd.NoTime limit waveform = waveform
 by_waveform_status P vcd.Read limit waveform = waveform
 by_waveform_status P vcd.Memory limit waveform = waveform
 
+-- and so is that of a refused netlist.
+by_netlist_status : (P : Status → Type 0) (why : NetlistFault) → P status.Limit → P status.Netlist → P (netlist_status why)
+by_netlist_status P (fault.TooLarge what) limit netlist = limit
+by_netlist_status P (fault.Lex why) limit netlist = netlist
+by_netlist_status P (fault.Parse why) limit netlist = netlist
+by_netlist_status P (fault.Rule why) limit netlist = netlist
+by_netlist_status P (fault.Loop key) limit netlist = netlist
+by_netlist_status P fault.Memory limit netlist = netlist
+
+-- Refused files have one of three statuses.
+by_input_status : (P : Status → Type 0) (why : InputRefusal) → P status.Limit → P status.Netlist → P status.Waveform
+    → P (inputs.refusal_status why)
+by_input_status P (Netlist why) limit netlist waveform = by_netlist_status P why limit netlist
+by_input_status P (Limit what) limit netlist waveform = limit
+by_input_status P (Waveform why) limit netlist waveform = by_waveform_status P why limit waveform
+
 -- No answer has a fault's status.
-refusal_no_fault : (why : Refusal) → is_fault (refusal_status why) ≡ false
-refusal_no_fault NoViolation = refl
-refusal_no_fault NotFirstAtLast = refl
-refusal_no_fault (Cut cycle) = refl
-refusal_no_fault (Netlist why) = refl
-refusal_no_fault (Limit what) = refl
-refusal_no_fault (Waveform why) = by_waveform_status (λ s. is_fault s ≡ false) why refl refl
+refusal_no_fault : (refusal : Refusal) → is_fault (refusal_status refusal) ≡ false
+refusal_no_fault (why.Inputs refusal) = by_input_status (λ s. is_fault s ≡ false) refusal refl refl refl
+refusal_no_fault why.NoViolation = refl
+refusal_no_fault (why.Judged reason) = refl
 
 pub no_fault : (answer : Answer) → is_fault (status_of answer) ≡ false
 no_fault (Minimised summary) = refl
 no_fault (Judged numbers) = refl
-no_fault (Refusing why) = refusal_no_fault why
+no_fault (Refusing refusal) = refusal_no_fault refusal
 
 -- Nothing printed is a prefix of any line.
 nothing_gained : (taken : Option (List ℕ)) (line : List ℕ) → taken ≡ option_map (λ bytes. bytes ++ take 0 line) taken
@@ -62,13 +82,12 @@ nothing_gained (Some bytes) line = ap Some (sym (append-nil bytes))
 
 -- What an answer says is on the way to it.
 on_the_way : (command : Command) (held now : Held) (answer : Answer) → Answers command held answer now → IsOnTheWay command held now
-on_the_way (minimise request) held _ _ (Minimises.refused why refused) = inl refl
+on_the_way (minimise request) held _ _ (Minimises.refused refusal refused) = inl refl
 on_the_way (minimise request) held _ _ (Minimises.no_violation none) = inl refl
 on_the_way (minimise request) held _ _ (Minimises.minimised text summary made) =
     inr (Minimised summary, holding request.out text held, Minimises.minimised text summary made, inr (inr (ap (λ bytes. holding request.out bytes held) (sym (bytes_under-holding request.out text held)))))
-on_the_way (check inputs) held _ _ (Checks.refused why refused) = inl refl
-on_the_way (check inputs) held _ _ (Checks.not_first none) = inl refl
-on_the_way (check inputs) held _ _ (Checks.cut cycle goes) = inl refl
+on_the_way (check inputs) held _ _ (Checks.refused refusal refused) = inl refl
+on_the_way (check inputs) held _ _ (Checks.judged reason against) = inl refl
 on_the_way (check inputs) held _ _ (Checks.accepted numbers counted) = inl refl
 
 pub told_on_the_way : (command : Command) (held after : Option Held) (answer : Answer) → Gives command held after answer → Tells (IsOnTheWay command) held after
@@ -101,7 +120,7 @@ module _ (command : Command) (before : Outside) (result : Status) (after : Outsi
   ended : (outcome : Result Answer Stop) → Ends command before.held after.held counts outcome
       → PrintsEnd outcome result (Rose before.faults after.faults) before.taken after.taken → Ended command before result after
   ended (Ok answer) gives prints = answer_ended answer gives prints
-  ended (Err (Refused why)) gives prints = answer_ended (Refusing why) gives prints
+  ended (Err (Refused refusal)) gives prints = answer_ended (Refusing refusal) gives prints
   ended (Err ReadFault) (rose, same) (inl (is, line)) = Ended.unread is (record { rose = rose; holds = same }) line
   ended (Err ReadFault) (rose, same) (inr (inl (is, cause, part))) = Ended.unprinted is (record { rose = cause; answer = inr (record { rose = rose; holds = same }, part) })
   ended (Err ReadFault) (rose, same) (inr (inr (is, part))) = Ended.memory is (record {
@@ -186,18 +205,17 @@ module _ (command : Command) (before : Outside) (result : Status) (after : Outsi
 
 -- ---- what 0 says
 
-refusal_not_done : (why : Refusal) → refusal_status why ≡ status.Done → ⊥
-refusal_not_done NoViolation zero = cc
-refusal_not_done NotFirstAtLast zero = cc
-refusal_not_done (Cut cycle) zero = cc
-refusal_not_done (Netlist why) zero = cc
-refusal_not_done (Limit what) zero = cc
-refusal_not_done (Waveform why) zero = by_waveform_status (λ s. s ≡ status.Done → ⊥) why (λ is. cc) (λ is. cc) zero
+refusal_not_done : (refusal : Refusal) → refusal_status refusal ≡ status.Done → ⊥
+refusal_not_done (why.Inputs refusal) zero =
+    by_input_status (λ s. s ≡ status.Done → ⊥) refusal (λ is. cc) (λ is. cc) (λ is. cc) zero
+refusal_not_done why.NoViolation zero = cc
+refusal_not_done (why.Judged reason) zero = cc
 
 done_when : (request : Request) (before after : Outside) (held now : Held) (answer : Answer) → Minimises request held answer now → status_of answer ≡ status.Done
     → GainsLine (line_of answer) before.taken after.taken → after.held ≡ Some now → IsDone request held before after
-done_when request before after held _ _ (Minimises.refused why refused) zero line is = absurd (refusal_not_done why zero)
-done_when request before after held _ _ (Minimises.no_violation none) zero line is = absurd (refusal_not_done NoViolation zero)
+done_when request before after held _ _ (Minimises.refused refusal refused) zero line is =
+    absurd (refusal_not_done (why.Inputs refusal) zero)
+done_when request before after held _ _ (Minimises.no_violation none) zero line is = absurd (refusal_not_done why.NoViolation zero)
 done_when request before after held _ _ (Minimises.minimised text summary made) zero line is =
     record { text = text; summary = summary; made = made; holds = is; line = line }
 
@@ -208,9 +226,10 @@ done_by request before after (Some held) answer (now, is, answers) zero line = d
 
 yes_when : (inputs : Inputs) (before after : Outside) (held now : Held) (answer : Answer) → Checks inputs held answer now → status_of answer ≡ status.Done
     → GainsLine (line_of answer) before.taken after.taken → before.held ≡ Some held → after.held ≡ Some now → SaysYes inputs held before after
-yes_when inputs before after held _ _ (Checks.refused why refused) zero line was is = absurd (refusal_not_done why zero)
-yes_when inputs before after held _ _ (Checks.not_first none) zero line was is = absurd (refusal_not_done NotFirstAtLast zero)
-yes_when inputs before after held _ _ (Checks.cut cycle goes) zero line was is = absurd (refusal_not_done (Cut cycle) zero)
+yes_when inputs before after held _ _ (Checks.refused refusal refused) zero line was is =
+    absurd (refusal_not_done (why.Inputs refusal) zero)
+yes_when inputs before after held _ _ (Checks.judged reason against) zero line was is =
+    absurd (refusal_not_done (why.Judged reason) zero)
 yes_when inputs before after held _ _ (Checks.accepted numbers counted) zero line was is =
     record { numbers = numbers; accepted = counted; holds = is ∙ sym was; line = line }
 
@@ -236,12 +255,10 @@ yes_kept inputs before result after keeps zero =
 answer_no_words : (answer : Answer) → status_of answer ≡ status.Words → ⊥
 answer_no_words (Minimised summary) two = cc
 answer_no_words (Judged numbers) two = cc
-answer_no_words (Refusing NoViolation) two = cc
-answer_no_words (Refusing NotFirstAtLast) two = cc
-answer_no_words (Refusing (Cut cycle)) two = cc
-answer_no_words (Refusing (Netlist why)) two = cc
-answer_no_words (Refusing (Limit what)) two = cc
-answer_no_words (Refusing (Waveform why)) two = by_waveform_status (λ s. s ≡ status.Words → ⊥) why (λ is. cc) (λ is. cc) two
+answer_no_words (Refusing (why.Inputs refusal)) two =
+    by_input_status (λ s. s ≡ status.Words → ⊥) refusal (λ is. cc) (λ is. cc) (λ is. cc) two
+answer_no_words (Refusing why.NoViolation) two = cc
+answer_no_words (Refusing (why.Judged reason)) two = cc
 
 printed_no_words : (own : Status) (line : List ℕ) (result : Status) (cause : Type 0) (taken taken_now : Option (List ℕ))
     → (own ≡ status.Words → ⊥) → Prints own line result cause taken taken_now → result ≡ status.Words → ⊥
@@ -254,8 +271,8 @@ pub no_words : (outcome : Result Answer Stop) (result : Status) (cause : Type 0)
     → PrintsEnd outcome result cause taken taken_now → result ≡ status.Words → ⊥
 no_words (Ok answer) result cause taken taken_now prints two =
     printed_no_words (status_of answer) (line_of answer) result cause taken taken_now (answer_no_words answer) prints two
-no_words (Err (Refused why)) result cause taken taken_now prints two =
-    printed_no_words (status_of (Refusing why)) (line_of (Refusing why)) result cause taken taken_now (answer_no_words (Refusing why)) prints two
+no_words (Err (Refused refusal)) result cause taken taken_now prints two =
+    printed_no_words (status_of (Refusing refusal)) (line_of (Refusing refusal)) result cause taken taken_now (answer_no_words (Refusing refusal)) prints two
 no_words (Err ReadFault) result cause taken taken_now prints two =
     printed_no_words status.ReadFault read_fault_line result cause taken taken_now (λ same. cc) prints two
 no_words (Err WriteFault) result cause taken taken_now (is, same) two = let other : status.WriteFault ≡ status.Words = sym is ∙ two in cc

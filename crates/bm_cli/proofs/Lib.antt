@@ -1,14 +1,6 @@
-pub mod AgreementLemmas
-pub mod CalmLemmas
-pub mod CutLemmas
-pub mod ExclusionLemmas
-pub mod FaultLemmas
-pub mod KeepsLemmas
-pub mod NameLemmas
-pub mod NetlistLemmas
-pub mod ReadLemmas
-pub mod ReadingLemmas
-pub mod Scalars
-pub mod ToldLemmas
-pub mod WordLemmas
-pub mod WritableLemmas
+mod AgreementLemmas
+mod CalmLemmas
+mod ExclusionLemmas
+mod KeepsLemmas
+mod MachineLemmas
+mod ToldLemmas

@@ -5,7 +5,7 @@ use Rattle.bm_base.specs.Size.{limit_of}
 use Rattle.bm_base.specs.declared.size.Size.TheVariants as size
 use Rattle.bm_cli.specs.Verdict.{HasCounted, HasMinimised}
 use Rattle.bm_cli.specs.declared.answer.Accepted.{Accepted}
-use Rattle.bm_cli.specs.Words.{Asks, Inputs, Request, minimise}
+use Rattle.bm_words.specs.Words.{Asks, Inputs, Request, minimise}
 use Rattle.bm_cli.specs.declared.answer.Summary.{Summary}
 
 -- what `check` reads, to judge what a request wrote

@@ -1,42 +1,25 @@
 -- The answers, their statuses and their lines.
-use Rattle.std.specs.Prelude.{ℕ, ◌==◌, Bool, ◌||◌, List, [], ◌++◌, codes, cond, decimal}
-use Rattle.bm_base.specs.Size.{limit_of, name_of_size}
-use Rattle.bm_base.specs.declared.size.Size.{Size}
+use Rattle.std.specs.Prelude.{ℕ, List, ◌++◌, codes, decimal}
 use Rattle.bm_base.specs.declared.status.Status.{Status}
 use Rattle.bm_base.specs.declared.status.Status.TheVariants as status
-use Rattle.elab.specs.declared.fault.ElabFault.{ElabFault}
-use Rattle.elab.specs.declared.fault.ElabFault.TheVariants as elab
-use Rattle.vcd_header.specs.declared.fault.VcdFault.{VcdFault}
-use Rattle.vcd_header.specs.declared.fault.VcdFault.TheVariants as vcd
-use Rattle.vlog_lexer.specs.declared.fault.LexFault.{LexFault}
-use Rattle.vlog_lexer.specs.declared.fault.LexFault.TheVariants as lex
-use Rattle.vlog_parse.specs.declared.parse_fault.ParseFault.{ParseFault}
-use Rattle.vlog_parse.specs.declared.parse_fault.ParseFault.TheVariants as parse
+use Rattle.bm_check.specs.declared.verdict.Reason.{Reason}
+use Rattle.bm_check.specs.declared.verdict.Reason.TheVariants.{Cut, NotFirstAtLast}
+use Rattle.bm_inputs.specs.Lines as inputs
 use Rattle.bm_cli.specs.declared.answer.Accepted.{Accepted}
 use Rattle.bm_cli.specs.declared.answer.Summary.{Summary}
 use Rattle.bm_cli.specs.declared.answer.Refusal.{Refusal}
-use Rattle.bm_cli.specs.declared.answer.Refusal.TheVariants.{NoViolation, NotFirstAtLast, Cut, Netlist, Limit, Waveform}
+use Rattle.bm_cli.specs.declared.answer.Refusal.TheVariants.{Inputs, Judged, NoViolation}
 use Rattle.bm_cli.specs.declared.answer.Answer.{Answer}
-use Rattle.bm_cli.specs.declared.answer.Answer.TheVariants.{Minimised, Accepted as Judged, Refused}
-use Rattle.bm_cli.specs.declared.netlist.fault.NetlistFault.{NetlistFault}
-use Rattle.bm_cli.specs.declared.netlist.fault.NetlistFault.TheVariants as fault
-
--- a limit that the rows pass has the status of a limit
-abbrev pub waveform_status : VcdFault → Status
-waveform_status (vcd.Limit what) = status.Limit
-waveform_status other = status.Waveform
+use Rattle.bm_cli.specs.declared.answer.Answer.TheVariants.{Accepted as Accepting, Minimised, Refused}
 
 abbrev pub refusal_status : Refusal → Status
+refusal_status (Inputs why) = inputs.refusal_status why
 refusal_status NoViolation = status.No
-refusal_status NotFirstAtLast = status.No
-refusal_status (Cut cycle) = status.No
-refusal_status (Netlist why) = status.Netlist
-refusal_status (Limit what) = status.Limit
-refusal_status (Waveform why) = waveform_status why
+refusal_status (Judged reason) = status.No
 
 abbrev pub status_of : Answer → Status
 status_of (Minimised summary) = status.Done
-status_of (Judged accepted) = status.Done
+status_of (Accepting accepted) = status.Done
 status_of (Refused refusal) = refusal_status refusal
 
 abbrev pub summary_line : Summary → List ℕ
@@ -49,81 +32,20 @@ accepted_line a =
     codes "yes: cycles " ++ decimal a.cycles ++ codes ", events " ++ decimal a.events
     ++ codes ", windows 0 certified, 0 open\n"
 
--- the line of a fault of such a file, with this code, at a place
-abbrev pub placed_line : List ℕ → List ℕ → ℕ → List ℕ
-placed_line file code at = file ++ codes " refused: " ++ code ++ codes " at " ++ decimal at ++ codes "\n"
-
--- want of memory has no line
-abbrev pub lex_line : LexFault → List ℕ
-lex_line (lex.BadByte at) = placed_line (codes "netlist") (codes "L1") at
-lex_line (lex.OpenComment at) = placed_line (codes "netlist") (codes "L2") at
-lex_line (lex.OpenString at) = placed_line (codes "netlist") (codes "L3") at
-lex_line (lex.Directive at) = placed_line (codes "netlist") (codes "L4") at
-lex_line lex.Memory = []
-
-abbrev pub parse_line : ParseFault → List ℕ
-parse_line (parse.Outside at) = placed_line (codes "netlist") (codes "P1") at
-parse_line (parse.Number at) = placed_line (codes "netlist") (codes "P2") at
-parse_line (parse.TooDeep at) = placed_line (codes "netlist") (codes "P3") at
-parse_line (parse.Syntax at) = placed_line (codes "netlist") (codes "P4") at
-parse_line parse.Memory = []
-
--- these rules print a name alone
-abbrev pub is_alone : ℕ → Bool
-is_alone rule = rule == 1 || (rule == 2 || rule == 11)
-
--- the name, behind that of its module and a dot
-abbrev pub printed_name : ℕ → List ℕ → List ℕ → List ℕ
-printed_name rule module_name name = cond (is_alone rule) name (module_name ++ codes "." ++ name)
-
-abbrev pub rule_line : ElabFault → List ℕ
-rule_line (elab.Rule rule module_name name) =
-    codes "netlist refused: E" ++ decimal rule ++ codes " " ++ printed_name rule module_name name ++ codes "\n"
-rule_line elab.Memory = []
-
-abbrev pub fault_line : NetlistFault → List ℕ
-fault_line (fault.Lex why) = lex_line why
-fault_line (fault.Parse why) = parse_line why
-fault_line (fault.Rule why) = rule_line why
-fault_line fault.Form = codes "netlist refused: form\n"
-
--- the size's name and its limit
-abbrev pub limit_line : Size → List ℕ
-limit_line what = codes "limit: " ++ name_of_size what ++ codes " " ++ decimal (limit_of what) ++ codes "\n"
-
--- what is printed where a file could not be read
-abbrev pub read_fault_line : List ℕ
-read_fault_line = codes "read fault\n"
-
-abbrev pub waveform_line : VcdFault → List ℕ
-waveform_line (vcd.Token at) = placed_line (codes "waveform") (codes "V1") at
-waveform_line (vcd.Truncated at) = placed_line (codes "waveform") (codes "V2") at
-waveform_line (vcd.TimeBack at) = placed_line (codes "waveform") (codes "V3") at
-waveform_line (vcd.BadCode at) = placed_line (codes "waveform") (codes "V4") at
-waveform_line (vcd.TooWide at) = placed_line (codes "waveform") (codes "V5") at
-waveform_line vcd.NoScope = codes "waveform refused: V6\n"
-waveform_line (vcd.NoSignal name) = codes "waveform refused: V7 " ++ name ++ codes "\n"
-waveform_line vcd.NoTime = codes "waveform refused: V8\n"
-waveform_line (vcd.Limit what) = limit_line what
-waveform_line vcd.Read = read_fault_line
-waveform_line vcd.Memory = []
-
--- the first cycle that can go
-abbrev pub cut_line : ℕ → List ℕ
-cut_line cycle = codes "no: N2 cycle " ++ decimal cycle ++ codes "\n"
+-- the first reason against a trace, with the first cycle that can go
+abbrev pub reason_line : Reason → List ℕ
+reason_line NotFirstAtLast = codes "no: N1\n"
+reason_line (Cut cycle) = codes "no: N2 cycle " ++ decimal cycle ++ codes "\n"
 
 abbrev pub refusal_line : Refusal → List ℕ
+refusal_line (Inputs why) = inputs.refusal_line why
 refusal_line NoViolation = codes "no violation\n"
-refusal_line NotFirstAtLast = codes "no: N1\n"
-refusal_line (Cut cycle) = cut_line cycle
-refusal_line (Netlist why) = fault_line why
-refusal_line (Limit what) = limit_line what
-refusal_line (Waveform why) = waveform_line why
+refusal_line (Judged reason) = reason_line reason
 
 -- the line, with its newline
 abbrev pub line_of : Answer → List ℕ
 line_of (Minimised summary) = summary_line summary
-line_of (Judged accepted) = accepted_line accepted
+line_of (Accepting accepted) = accepted_line accepted
 line_of (Refused refusal) = refusal_line refusal
 
 -- what is printed where the words ask for nothing

@@ -4,7 +4,8 @@ use Rattle.bm_base.specs.Held.{Held}
 use Rattle.bm_cli.specs.Answer.{status_of}
 use Rattle.bm_cli.specs.Commands.Check.{Checks}
 use Rattle.bm_cli.specs.Commands.Minimise.{Minimises}
-use Rattle.bm_cli.specs.Words.{Command, Inputs, check, inputs_of, minimise}
+use Rattle.bm_inputs.specs.Files.{files_of}
+use Rattle.bm_words.specs.Words.{Command, check, inputs_of, minimise}
 use Rattle.bm_cli.specs.declared.answer.Answer.{Answer}
 pub mod Check
 pub mod Minimise
@@ -15,9 +16,6 @@ Answers (minimise request) = Minimises request
 Answers (check inputs) = Checks inputs
 
 -- the names of the files that a command reads, in their order
-abbrev pub files_of : Inputs → List (List ℕ)
-files_of inputs = inputs.netlist ∷ inputs.waveform ∷ []
-
 abbrev pub reads_of : Command → List (List ℕ)
 reads_of command = files_of (inputs_of command)
 

@@ -4,8 +4,8 @@ use Rattle.bm_base.specs.Counts.{FaultCounts}
 use Rattle.bm_base.specs.Held.{Held, bytes_under, holding}
 use Rattle.bm_cli.specs.Commands.{Answers, writes_of}
 use Rattle.bm_cli.specs.Outside.{SomeRose, Tells}
-use Rattle.bm_cli.specs.Verdict.{FailsReading}
-use Rattle.bm_cli.specs.Words.{Command, inputs_of}
+use Rattle.bm_inputs.specs.Files.{FailsReading}
+use Rattle.bm_words.specs.Words.{Command, inputs_of}
 use Rattle.bm_cli.specs.declared.answer.Answer.{Answer}
 use Rattle.bm_cli.specs.declared.answer.Answer.TheVariants.{Refused as Refusing}
 use Rattle.bm_cli.specs.declared.answer.Stop.{Stop}

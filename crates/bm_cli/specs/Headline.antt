@@ -5,7 +5,7 @@ use Rattle.bm_cli.specs.Answer.{accepted_line, summary_line}
 use Rattle.bm_cli.specs.Outside.{Outside}
 use Rattle.bm_cli.specs.Prints.{GainsLine}
 use Rattle.bm_cli.specs.Verdict.{HasCounted, HasMinimised}
-use Rattle.bm_cli.specs.Words.{Inputs, Request}
+use Rattle.bm_words.specs.Words.{Inputs, Request}
 use Rattle.bm_cli.specs.declared.answer.Accepted.{Accepted}
 use Rattle.bm_cli.specs.declared.answer.Summary.{Summary}
 

@@ -4,13 +4,15 @@ use Rattle.bm_base.specs.Counts.{Rose}
 use Rattle.bm_base.specs.Held.{Held}
 use Rattle.bm_base.specs.declared.status.Status.{Status}
 use Rattle.bm_base.specs.declared.status.Status.TheVariants as status
-use Rattle.bm_cli.specs.Answer.{line_of, read_fault_line, status_of, words_line}
+use Rattle.bm_inputs.specs.Counts.{OthersStay}
+use Rattle.bm_inputs.specs.Files.{FailsReading}
+use Rattle.bm_inputs.specs.Lines.{read_fault_line}
+use Rattle.bm_words.specs.Words.{Command, inputs_of}
+use Rattle.bm_cli.specs.Answer.{line_of, status_of, words_line}
 use Rattle.bm_cli.specs.Commands.{Answers, reads_of, writes_of}
 use Rattle.bm_cli.specs.Ends.{Gives, IsOnTheWay}
-use Rattle.bm_cli.specs.Outside.{OthersStay, Outside, SomeRose, Tells}
+use Rattle.bm_cli.specs.Outside.{Outside, SomeRose, Tells}
 use Rattle.bm_cli.specs.Prints.{GainsLine, GainsPart, Prints}
-use Rattle.bm_cli.specs.Verdict.{FailsReading}
-use Rattle.bm_cli.specs.Words.{Command, inputs_of}
 use Rattle.bm_cli.specs.declared.answer.Answer.{Answer}
 
 -- whether the status is no answer's: 5, 6 and 8

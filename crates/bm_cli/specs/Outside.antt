@@ -20,16 +20,7 @@ abbrev pub Tells : (Held → Held → Type 0) → Option Held → Option Held �
 Tells P None after = after ≡ None
 Tells P (Some held) after = (now : Held) × (after ≡ Some now) × P held now
 
--- The name is one of these.
-abbrev pub IsOneOf : List (List ℕ) → List ℕ → Type 0
-IsOneOf [] name = ⊥
-IsOneOf (first ∷ names) name = (name ≡ first) ⊎ IsOneOf names name
-
 -- The count of one of these names has risen.
 abbrev pub SomeRose : List (List ℕ) → FaultCounts → FaultCounts → Type 0
 SomeRose [] old new = ⊥
 SomeRose (name ∷ names) old new = Rose (count_of old name) (count_of new name) ⊎ SomeRose names old new
-
--- No count of a name but these has changed.
-abbrev pub OthersStay : List (List ℕ) → FaultCounts → FaultCounts → Type 0
-OthersStay names old new = (name : List ℕ) → (IsOneOf names name → ⊥) → count_of new name ≡ count_of old name

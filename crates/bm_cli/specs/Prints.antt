@@ -3,7 +3,8 @@ use Rattle.std.specs.Prelude.{◌≡◌, ◌⊎◌, ℕ, List, ◌++◌, Option,
 use Rattle.std.specs.Option.{option_map}
 use Rattle.bm_base.specs.declared.status.Status.{Status}
 use Rattle.bm_base.specs.declared.status.Status.TheVariants as status
-use Rattle.bm_cli.specs.Answer.{line_of, read_fault_line, refusal_line, refusal_status, status_of}
+use Rattle.bm_inputs.specs.Lines.{read_fault_line}
+use Rattle.bm_cli.specs.Answer.{line_of, refusal_line, refusal_status, status_of}
 use Rattle.bm_cli.specs.declared.answer.Answer.{Answer}
 use Rattle.bm_cli.specs.declared.answer.Stop.{Stop}
 use Rattle.bm_cli.specs.declared.answer.Stop.TheVariants.{Refused, ReadFault, WriteFault, Memory}

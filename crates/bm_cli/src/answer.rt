@@ -1,16 +1,13 @@
 //! What a command answers, and the line that it prints.
 ghost use Rattle.std.specs.Prelude.{◌≡◌, IfOk};
 ghost use Rattle.std.specs.String.{string_bytes};
-ghost use Rattle.bm_cli.specs.Answer.{cut_line, limit_line};
+ghost use Rattle.bm_cli.specs.Answer.{reason_line};
 
-use crate::netlist::fault::NetlistFault;
-use crate::waveform::{waveform_line, waveform_status};
-use bm_base::{NoMemory, Size, Status};
-use elab::ElabFault;
+use bm_base::{NoMemory, Status};
+use bm_check::Reason;
+use bm_inputs::{InputRefusal, InputStop};
+use bm_minimise::MinFault;
 use std::alloc::{AllocError, AllocFailed, Global};
-use vcd_header::VcdFault;
-use vlog_lexer::LexFault;
-use vlog_parse::ParseFault;
 
 /// What `minimise` made of a stimulus.
 #[derive(Clone, Copy, Debug)]
@@ -47,7 +44,7 @@ impl Summary {
 /// What `check` counts in a trace that it accepts.
 #[derive(Clone, Copy, Debug)]
 pub struct Accepted {
-    pub cycles: usize,
+    pub cycles: u64,
     pub events: u64,
 }
 
@@ -65,18 +62,12 @@ impl Accepted {
 /// Why a command's work was not done, where a line says so.
 #[derive(Debug, Drop)]
 pub enum Refusal {
+    /// A file that it reads is refused.
+    Inputs(InputRefusal),
     /// No cycle of the stimulus violates.
     NoViolation,
-    /// The first violation of a trace is not its last cycle.
-    NotFirstAtLast,
-    /// A trace violates without this cycle, which is the first such one.
-    Cut { cycle: usize },
-    /// The netlist is refused.
-    Netlist(NetlistFault),
-    /// A size passes its limit.
-    Limit(Size),
-    /// The waveform is refused, or its rows pass a limit.
-    Waveform(VcdFault),
+    /// The trace is not accepted.
+    Judged(Reason),
 }
 
 impl Refusal {
@@ -86,10 +77,8 @@ impl Refusal {
         ensures { result ≡ refusal_status self.now }
     {
         match self {
-            Refusal::NoViolation | Refusal::NotFirstAtLast | Refusal::Cut { .. } => Status::No,
-            Refusal::Netlist(_) => Status::Netlist,
-            Refusal::Limit(_) => Status::Limit,
-            Refusal::Waveform(fault) => waveform_status(fault),
+            Refusal::Inputs(refusal) => refusal.status(),
+            Refusal::NoViolation | Refusal::Judged(_) => Status::No,
         }
     }
 
@@ -97,28 +86,20 @@ impl Refusal {
         ensures { IfOk result (λ line. line.items ≡ refusal_line self.now) }
     {
         match self {
+            Refusal::Inputs(refusal) => refusal.line(alloc),
             Refusal::NoViolation => Ok(String::from_str(alloc, "no violation\n")?.into_bytes()),
-            Refusal::NotFirstAtLast => Ok(String::from_str(alloc, "no: N1\n")?.into_bytes()),
-            Refusal::Cut { cycle } => Ok(cut_line(alloc, *cycle)?.into_bytes()),
-            Refusal::Netlist(fault) => fault.line(alloc),
-            Refusal::Limit(what) => Ok(limit_line(alloc, *what)?.into_bytes()),
-            Refusal::Waveform(fault) => waveform_line(alloc, fault),
+            Refusal::Judged(reason) => Ok(reason_line(alloc, *reason)?.into_bytes()),
         }
     }
 }
 
-fn cut_line(alloc: Global, cycle: usize) -> Result<String, AllocError>
-    ensures { IfOk result (λ line. string_bytes line ≡ cut_line cycle) }
+fn reason_line(alloc: Global, reason: Reason) -> Result<String, AllocError>
+    ensures { IfOk result (λ line. string_bytes line ≡ reason_line reason) }
 {
-    format!(in alloc; "no: N2 cycle {cycle}\n")
-}
-
-/// The line that says that a size passes its limit.
-pub fn limit_line(alloc: Global, what: Size) -> Result<String, AllocError>
-    ensures { IfOk result (λ line. string_bytes line ≡ limit_line what) }
-{
-    let limit = what.limit();
-    format!(in alloc; "limit: {what} {limit}\n")
+    match reason {
+        Reason::NotFirstAtLast => String::from_str(alloc, "no: N1\n"),
+        Reason::Cut { cycle } => format!(in alloc; "no: N2 cycle {cycle}\n"),
+    }
 }
 
 /// What a command answers.
@@ -168,44 +149,31 @@ pub enum Stop {
     Memory,
 }
 
-impl From<LexFault> for Stop {
+impl From<InputStop> for Stop {
     ghost use Rattle.std.specs.Prelude.{◌≡◌};
-    ghost use Rattle.bm_cli.specs.Reading.{stop_of_lex};
+    ghost use Rattle.bm_cli.specs.Stops.{stop_of_inputs};
 
-    ghost from_gives = { λ fault stop. stop ≡ stop_of_lex fault };
+    ghost from_gives = { λ inputs stop. stop ≡ stop_of_inputs inputs };
 
-    fn from(fault: LexFault) -> Stop {
-        match fault {
-            LexFault::Memory => Stop::Memory,
-            _ => Stop::Refused(Refusal::Netlist(NetlistFault::Lex(fault))),
+    fn from(stop: InputStop) -> Stop {
+        match stop {
+            InputStop::Refused(refusal) => Stop::Refused(Refusal::Inputs(refusal)),
+            InputStop::ReadFault => Stop::ReadFault,
+            InputStop::Memory => Stop::Memory,
         }
     }
 }
 
-impl From<ParseFault> for Stop {
+impl From<MinFault> for Stop {
     ghost use Rattle.std.specs.Prelude.{◌≡◌};
-    ghost use Rattle.bm_cli.specs.Reading.{stop_of_parse};
+    ghost use Rattle.bm_cli.specs.Stops.{stop_of_shortening};
 
-    ghost from_gives = { λ fault stop. stop ≡ stop_of_parse fault };
+    ghost from_gives = { λ fault stop. stop ≡ stop_of_shortening fault };
 
-    fn from(fault: ParseFault) -> Stop {
+    fn from(fault: MinFault) -> Stop {
         match fault {
-            ParseFault::Memory => Stop::Memory,
-            _ => Stop::Refused(Refusal::Netlist(NetlistFault::Parse(fault))),
-        }
-    }
-}
-
-impl From<ElabFault> for Stop {
-    ghost use Rattle.std.specs.Prelude.{◌≡◌};
-    ghost use Rattle.bm_cli.specs.Reading.{stop_of_rule};
-
-    ghost from_gives = { λ fault stop. stop ≡ stop_of_rule fault };
-
-    fn from(fault: ElabFault) -> Stop {
-        match fault {
-            ElabFault::Memory => Stop::Memory,
-            _ => Stop::Refused(Refusal::Netlist(NetlistFault::Rule(fault))),
+            MinFault::NoViolation => Stop::Refused(Refusal::NoViolation),
+            MinFault::Memory => Stop::Memory,
         }
     }
 }

@@ -6,7 +6,7 @@ ghost use Rattle.bm_cli.specs.Answer.{status_of};
 ghost use Rattle.bm_cli.specs.Commands.{Answers};
 ghost use Rattle.bm_cli.specs.Keeps.{Keeps};
 ghost use Rattle.bm_cli.specs.Outside.{outside};
-ghost use Rattle.bm_cli.specs.Words.{AskNothing, Asks, Command, texts};
+ghost use Rattle.bm_words.specs.Words.{AskNothing, Asks, Command, texts};
 ghost use Rattle.bm_cli.specs.declared.answer.Answer.{Answer};
 
 use crate::run;

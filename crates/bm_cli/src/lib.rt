@@ -4,14 +4,8 @@
 mod answer;
 mod calm;
 mod commands;
-mod count;
-mod inputs;
 pub mod laws;
-mod netlist;
-mod placed;
 mod top;
-mod waveform;
-mod words;
 
 pub use calm::run_calmly;
 pub use top::run;

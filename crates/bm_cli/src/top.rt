@@ -6,13 +6,14 @@ ghost use Rattle.bm_cli.specs.Headline.{IsDone, SaysYes};
 ghost use Rattle.bm_cli.specs.Keeps.{Keeps, RefusesWords};
 ghost use Rattle.bm_cli.specs.Outside.{outside};
 ghost use Rattle.bm_cli.specs.Prints.{Prints, PrintsEnd};
-ghost use Rattle.bm_cli.specs.Words.{AskNothing, Asks, Command, Inputs, Request, check, minimise, texts};
+ghost use Rattle.bm_words.specs.Words.{AskNothing, Asks, Command, Inputs, Request, check, minimise, texts};
 
 use crate::answer::{Answer, Stop};
 use crate::commands::carry_out;
 use crate::laws::{check_has_one_status, minimise_has_one_status};
-use crate::words::read_words;
 use bm_base::{Fault, Shelf, Sink, Status};
+use bm_words::laws::one_command;
+use bm_words::read_words;
 use std::alloc::Global;
 
 /// Does what the words ask for, the program's name being the first of them, and prints its line.
@@ -43,6 +44,7 @@ pub fn run<F: Shelf, S: Sink>(alloc: Global, words: &[String], shelf: &mut F, ou
         (outside (F.held shelf.old) (F.reads shelf.old) (F.writes shelf.old) (S.taken out.old) (S.faults out.old))
         (outside (F.held shelf.new) (F.reads shelf.new) (F.writes shelf.new) (S.taken out.new) (S.faults out.new))) }
 {
+    one_command();
     minimise_has_one_status();
     check_has_one_status();
     let Some(asked) = read_words(words) else {

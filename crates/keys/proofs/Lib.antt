@@ -3,3 +3,5 @@ mod KeyLemmas
 mod PathLemmas
 mod PlaceLemmas
 mod PlannedLemmas
+mod PrintLemmas
+mod UnderLemmas

@@ -1,2 +1,4 @@
 pub mod Holding
 pub mod Kinds
+pub mod Printed
+pub mod Under

@@ -1,4 +1,5 @@
 pub mod BitLemmas
+pub mod CountLemmas
 pub mod EvaluationLemmas
 pub mod RowLemmas
 pub mod RunLemmas

@@ -5,6 +5,7 @@ ghost use Rattle.flat_net.specs.Values.{edge_value};
 ghost use Rattle.levelise.specs.Evaluation.{HasValues};
 ghost use Rattle.levelise.specs.Machine.{HasReset, known, machine};
 ghost use Rattle.levelise.specs.Rows.{IsRow};
+ghost use Rattle.levelise.specs.States.{AreStatesCounted};
 
 use crate::placed::Placed;
 use crate::values::{edge_bit, set_edges, set_values};
@@ -84,6 +85,31 @@ impl Levelled {
     {
         self.evaluate(state, row, work);
         self.is_bad(work)
+    }
+
+    /// Does one cycle: writes the state after it to `next`, and says whether it violates. In `work` a bit for each node is
+    /// changed. Takes no memory.
+    pub fn cycle(&self, state: &Bits, row: &Bits, next: &mut Bits, work: &mut Bits) -> bool
+        requires state { length state.now ≡ length self.now.net.power_up }
+        requires row { length row.now ≡ self.now.net.inputs }
+        requires next { length next.old ≡ length self.now.net.power_up }
+        requires work { length work.old ≡ length self.now.net.nodes }
+        ensures next { next.new ≡ (machine self.now).next state.now row.now }
+        ensures bad { result ≡ (machine self.now).bad state.now row.now }
+        ensures count { length next.new ≡ length self.now.net.power_up }
+        ensures work { length work.new ≡ length self.now.net.nodes }
+    {
+        self.evaluate(state, row, work);
+        self.move_on(work, next);
+        self.is_bad(work)
+    }
+
+    /// How many bits a state has, one for each register.
+    pub fn registers(&self) -> usize
+        ensures count { result ≡ length self.now.net.power_up }
+        ensures states { AreStatesCounted self.now }
+    {
+        self.net.power_up().len()
     }
 
     /// Sets the bit of each node to its value.

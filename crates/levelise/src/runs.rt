@@ -80,8 +80,8 @@ impl Levelled {
         Ok(before)
     }
 
-    // A bit for each node.
-    fn work(&self, alloc: Global) -> Result<Bits, NoMemory>
+    /// A bit for each node, to work with.
+    pub fn work(&self, alloc: Global) -> Result<Bits, NoMemory>
         ensures { IfOk result (λ work. length work ≡ length self.now.net.nodes) }
     {
         Ok(Bits::zeros(alloc, self.net().nodes().len())?)

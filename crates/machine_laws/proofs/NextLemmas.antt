@@ -1,18 +1,21 @@
 -- The next states and the checkers of a design and of its flat netlist.
-use Rattle.std.proofs.Common.{◌≡◌, ◌<◌, ℕ, zero, suc, List, [], ◌∷◌, Bool, fold, replicate, Option, None, Some, ap, arith, length, not, option_map, refl, slice_get, sym, ◌∙◌}
+use Rattle.std.proofs.Common.{◌≡◌, ◌<◌, ℕ, zero, suc, List, [], ◌∷◌, Bool, false, ◌&&◌, ◌==◌, fold, replicate, Option, None, Some, ap, arith, length, not, option_map, refl, slice_get, sym, ◌∙◌}
 use Rattle.std.specs.List.{zip}
 use Rattle.std.specs.Option.{option_and_then}
 use Rattle.elab.specs.Plans.{reset_at, reset_of}
 use Rattle.flat_design.specs.Values.{HasValues}
-use Rattle.machine_laws.specs.Machines.{AreSame, IsResetOf, level_of}
+use Rattle.machine_laws.specs.Machines.{AreSame, level_of}
+use Rattle.rule_laws.specs.Reset.{IsResetOf}
 use Rattle.machine_laws.proofs.RowLemmas.{no_row, place_is, row_is}
 use Rattle.vlog_tree.specs.declared.design.Module.{Module}
 use Rattle.vlog_tree.specs.Meaning.Instances.{top_module}
 use Rattle.vlog_tree.specs.Meaning.Uses.{Text}
 use Rattle.std.proofs.lemmas.List.{length-map}
+use Rattle.std.proofs.lemmas.List.FromFn.{length-map-range_with_len}
 use Rattle.std.proofs.lemmas.Option.{same_Some, slice_get-map, slice_get_within}
 use Rattle.flat_design.specs.Flat.{flat}
 use Rattle.flat_net.specs.declared.edge.Edge.{Edge}
+use Rattle.flat_net.specs.declared.setup.Reset.{Reset}
 use Rattle.flat_net.specs.Values.{edge_value_of}
 use Rattle.levelise.specs.Machine.{known}
 use Rattle.levelise.specs.Machine as net
@@ -122,6 +125,11 @@ module _ (loops : LoopsAreOfNodes) (setting : Setting) (clocked : IsClockedDesig
         (place_is setting m top name (is.input name active there) (is.apart name active there) (is.one_bit name active there))
         ∙ row_is setting m top name (is.input name active there) (is.apart name active there) (is.one_bit name active there) (not active)
 
+    base_width : (reset : Option Reset) → length (net.base_row (flat setting) reset) ≡ length (input_keys setting)
+    base_width None = length-map-range_with_len (λ (place : ℕ). false) 0 (length (input_keys setting))
+    base_width (Some reset) =
+        length-map-range_with_len (λ (place : ℕ). (place == reset.bit) && not reset.active) 0 (length (input_keys setting))
+
     pub machines_same : HasValues setting (flat setting)
         → AreSame (length (register_keys setting)) (length (input_keys setting)) (net.machine (level_of setting)) (design.machine setting)
     machines_same values = record {
@@ -131,4 +139,5 @@ module _ (loops : LoopsAreOfNodes) (setting : Setting) (clocked : IsClockedDesig
       stays = λ state row state_count row_count. ap length (next_same state row state_count row_count) ∙ after_count state row state_count row_count;
       bad = values.check;
       base = based setting.reset refl;
+      width = base_width (option_and_then (reset_of setting) setting.reset);
     }

@@ -1,25 +1,18 @@
 -- A design and its flat netlist are one machine.
-use Rattle.std.specs.Prelude.{◌≡◌, ◌<◌, ℕ, List, Bool, true, false, Some, bytes_eq, length}
+use Rattle.std.specs.Prelude.{◌≡◌, ◌<◌, ℕ, List, Bool, Some, length}
 use Rattle.elab.specs.Plans.{setup_of}
 use Rattle.flat_design.specs.Flat.{flat}
 use Rattle.levelise.specs.Machine.{Level}
 use Rattle.levelise.specs.Machine as net
 use Rattle.loop_laws.specs.Loops.{IsClockedDesign}
+use Rattle.rule_laws.specs.Reset.{IsResetOf}
 use Rattle.trace_rows.specs.Machine.{Machine}
 use Rattle.vlog_tree.specs.declared.design.Module.{Module}
 use Rattle.vlog_tree.specs.Meaning.Instances.{top_module}
-use Rattle.vlog_tree.specs.Meaning.Keys.{bit_count, input_keys, register_keys}
-use Rattle.vlog_tree.specs.Meaning.Names.{is_input}
+use Rattle.vlog_tree.specs.Meaning.Keys.{input_keys, register_keys}
 use Rattle.vlog_tree.specs.Meaning.Setting.{Setting}
 use Rattle.vlog_tree.specs.Meaning.Step as design
-use Rattle.vlog_tree.specs.Meaning.Uses.{Text}
 use Rattle.vlog_tree.specs.Meaning.Value.{IsLoopFree}
-
--- A reset is an input of the top that is not the clock, of one bit.
-pub record IsResetOf (setting : Setting) (m : Module) : Type 0 where
-  pub input : (name : Text) (active : Bool) → setting.reset ≡ Some (name, active) → is_input m name ≡ true
-  pub apart : (name : Text) (active : Bool) → setting.reset ≡ Some (name, active) → bytes_eq name setting.clock ≡ false
-  pub one_bit : (name : Text) (active : Bool) → setting.reset ≡ Some (name, active) → bit_count m name ≡ 1
 
 -- the flat netlist of a design, and how its runs begin
 abbrev pub level_of : Setting → Level
@@ -33,6 +26,7 @@ pub record AreSame (registers inputs : ℕ) (one other : Machine) : Type 0 where
   pub stays : (state row : List Bool) → length state ≡ registers → length row ≡ inputs → length (one.next state row) ≡ registers
   pub bad : (state row : List Bool) → length state ≡ registers → length row ≡ inputs → one.bad state row ≡ other.bad state row
   pub base : one.base ≡ other.base
+  pub width : length one.base ≡ inputs
 
 abbrev pub MachinesAgree : Type 0
 MachinesAgree =

@@ -1,5 +1,10 @@
+pub mod CutLemmas
+pub mod LeadLemmas
 pub mod ListLemmas
+pub mod LowLemmas
 pub mod NodeLemmas
 pub mod OrderLemmas
-pub mod ReachLemmas
+pub mod PartLemmas
+pub mod StepLemmas
+pub mod TakeLemmas
 pub mod WalkLemmas

@@ -8,7 +8,7 @@ use Rattle.flat_net.specs.Nets.{IsNet, Net}
 use Rattle.net_loops.specs.Loops.{HasEdgeTo, Reads}
 use Rattle.net_loops.proofs.SourceLemmas.{IsGood, net_good}
 use Rattle.net_order.specs.Marks.{Marked}
-use Rattle.net_order.specs.Walks.{IsPending}
+use Rattle.net_order.specs.Readings.{IsPending}
 use Rattle.net_order.proofs.ListLemmas.{some_same}
 
 -- what a node reads by its kind is below the count
@@ -55,28 +55,28 @@ module _ (net : Net) (is : IsNet net) (shown : List Node) (same : shown ≡ net.
   pub read_to : (next : ℕ) → HasEdgeTo node next → Reads net.nodes number next
   read_to next edge = reads_to net.nodes number node there next edge
 
-  -- ---- which of those that it reads is not placed
+  -- ---- which of those that it reads has no mark
 
-  pub pending_of : (done : List Bool) (result : Option ℕ)
-      → MatchOption result ((next : ℕ) → HasEdgeTo node next → Marked done next)
-      (λ next. HasEdgeTo node next × (slice_get done next ≡ Some false))
-      → MatchOption result ((next : ℕ) → Reads net.nodes number next → Marked done next) (λ next. IsPending net.nodes done number next)
-  pending_of done None all = λ next reads. all next (read_back next reads)
-  pending_of done (Some next) one = record { reads = read_to next one.0; not_done = one.1 }
+  pub pending_of : (marks : List Bool) (result : Option ℕ)
+      → MatchOption result ((next : ℕ) → HasEdgeTo node next → Marked marks next)
+      (λ next. HasEdgeTo node next × (slice_get marks next ≡ Some false))
+      → MatchOption result ((next : ℕ) → Reads net.nodes number next → Marked marks next) (λ next. IsPending net.nodes marks number next)
+  pending_of marks None all = λ next reads. all next (read_back next reads)
+  pending_of marks (Some next) one = record { reads = read_to next one.0; not_marked = one.1 }
 
-pub of_one : (done : List Bool) (place : ℕ) (result : Option ℕ)
-    → MatchOption result (Marked done place) (λ next. (place ≡ next) × (slice_get done next ≡ Some false))
-    → MatchOption result ((next : ℕ) → place ≡ next → Marked done next) (λ next. (place ≡ next) × (slice_get done next ≡ Some false))
-of_one done place None is = λ next same. subst (λ one. Marked done one) same is
-of_one done place (Some next) is = is
+pub of_one : (marks : List Bool) (place : ℕ) (result : Option ℕ)
+    → MatchOption result (Marked marks place) (λ next. (place ≡ next) × (slice_get marks next ≡ Some false))
+    → MatchOption result ((next : ℕ) → place ≡ next → Marked marks next) (λ next. (place ≡ next) × (slice_get marks next ≡ Some false))
+of_one marks place None is = λ next same. subst (λ one. Marked marks one) same is
+of_one marks place (Some next) is = is
 
-pub of_two : (done : List Bool) (left right : ℕ) (result : Option ℕ)
-    → MatchOption result (Marked done left × Marked done right)
-    (λ next. ((left ≡ next) ⊎ (right ≡ next)) × (slice_get done next ≡ Some false))
-    → MatchOption result ((next : ℕ) → (left ≡ next) ⊎ (right ≡ next) → Marked done next)
-    (λ next. ((left ≡ next) ⊎ (right ≡ next)) × (slice_get done next ≡ Some false))
-of_two done left right None is = λ next same. elim same [
-  | inl first ↦ subst (λ one. Marked done one) first is.0
-  | inr second ↦ subst (λ one. Marked done one) second is.1
+pub of_two : (marks : List Bool) (left right : ℕ) (result : Option ℕ)
+    → MatchOption result (Marked marks left × Marked marks right)
+    (λ next. ((left ≡ next) ⊎ (right ≡ next)) × (slice_get marks next ≡ Some false))
+    → MatchOption result ((next : ℕ) → (left ≡ next) ⊎ (right ≡ next) → Marked marks next)
+    (λ next. ((left ≡ next) ⊎ (right ≡ next)) × (slice_get marks next ≡ Some false))
+of_two marks left right None is = λ next same. elim same [
+  | inl first ↦ subst (λ one. Marked marks one) first is.0
+  | inr second ↦ subst (λ one. Marked marks one) second is.1
 ]
-of_two done left right (Some next) is = is
+of_two marks left right (Some next) is = is

@@ -1,15 +1,35 @@
 -- The order in the end.
-use Rattle.std.specs.Prelude.{◌≡◌, ◌↔◌, ℕ, ◌+◌, ◌<◌, ◌≤◌, IsTrue, List, [], Bool, true, false, length, slice_get}
+use Rattle.std.specs.Prelude.{◌≡◌, ◌↔◌, ℕ, zero, suc, ◌+◌, ◌<◌, ◌≤◌, IsTrue, List, [], Bool, true, false, Some, length, slice_get}
 use Rattle.std.proofs.Common.{ap, arith, inl, inr, sym, ◌∙◌, subst}
 use Rattle.std.proofs.lemmas.Option.{none-some, slice_get_within}
 use Rattle.flat_net.specs.declared.node.Node.{Node}
-use Rattle.net_loops.specs.Loops.{ReadsItself}
+use Rattle.net_loops.specs.Loops.{Leads, ReadsItself}
 use Rattle.net_order.specs.Faults.{IsLeastLoop}
 use Rattle.net_order.specs.Marks.{Marked}
 use Rattle.net_order.specs.Orders.{IsOrder}
-use Rattle.net_order.specs.Walks.{IsWalk, Progress}
+use Rattle.net_order.specs.Walks.{ArePlaced, IsWalk, Progress}
 use Rattle.net_order.proofs.ListLemmas.{same_or_not}
-use Rattle.net_order.proofs.ReachLemmas.{placed_apart}
+
+-- ---- what is placed does not read itself
+
+module _ (nodes : List Node) (done : List Bool) (order : List ℕ) (placed : ArePlaced nodes done order) where
+  -- readings lead to earlier places
+  earlier : (count from to place : ℕ) → slice_get order place ≡ Some from → Leads nodes count from to
+      → (before : ℕ) × ((before + count ≤ place) × (slice_get order before ≡ Some to))
+  earlier zero from to place at same = (place, (omega arith, at ∙ ap Some same))
+  earlier (suc count) from to place at (next, (reads, way)) =
+      let first = placed.after place from next at reads in
+      let other = earlier count next to first.0 first.1.1 way in
+      (other.0, (omega (arith, first.1.0, other.1.0), other.1.1))
+
+  placed_apart : (node : ℕ) → Marked done node → ReadsItself nodes node → ⊥
+  placed_apart node marked way =
+      let stands = placed.stands node marked in
+      let before = earlier (suc way.0) node node stands.0 stands.1 way.1 in
+      let same = placed.once before.0 stands.0 node before.1.1 stands.1 in
+      omega (arith, before.1.0, same)
+
+-- ---- the order
 
 module _ (nodes : List Node) (walk : Progress) (is : IsWalk nodes walk) (none : walk.stack ≡ [])
     (all : (node : ℕ) → node < length nodes → Marked walk.seen node) where

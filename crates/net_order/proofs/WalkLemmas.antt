@@ -5,10 +5,11 @@ use Rattle.std.proofs.Math.ListN.{length-set}
 use Rattle.std.proofs.lemmas.List.{length-replicate}
 use Rattle.std.proofs.lemmas.Option.{none-some, slice_get-get_or, slice_get_within}
 use Rattle.flat_net.specs.declared.node.Node.{Node}
-use Rattle.net_loops.specs.Loops.{Leads, Reads}
+use Rattle.net_loops.specs.Loops.{Leads, Reads, ReadsItself}
 use Rattle.net_loops.proofs.LoopLemmas.{leads_more}
 use Rattle.net_order.specs.Marks.{Grows, Marked, Stands}
-use Rattle.net_order.specs.Walks.{ArePlaced, Found, IsPending, IsWalk, Progress, begun, finished, fresh, size_of, with_top}
+use Rattle.net_order.specs.Readings.{IsPending}
+use Rattle.net_order.specs.Walks.{ArePlaced, IsWalk, Progress, begun, finished, fresh, size_of, with_top}
 use Rattle.net_order.proofs.ListLemmas.{differ, get_either, get_kept, get_last, get_more, get_none, length_more, set_back, set_here, set_kept, set_other, unmarked_set}
 
 module _ (nodes : List Node) where
@@ -204,7 +205,7 @@ module _ (nodes : List Node) where
 
   pub loop_found : (walk : Progress) (node next : ℕ) → IsWalk nodes (with_top walk node) → Reads nodes node next
       → slice_get walk.done next ≡ Some false
-      → Marked walk.seen next → Found nodes walk next
+      → Marked walk.seen next → ReadsItself nodes next
   loop_found walk node next is reads open_yet seen = elim (is.known next seen) [
     | inl done ↦ differ (slice_get walk.done next) done open_yet
     | inr stands ↦
@@ -214,11 +215,7 @@ module _ (nodes : List Node) where
         let leads : Leads nodes count next node =
         way_leads (walk.stack ++ node ∷ []) is.way count stands.0 next node stands.1
         (ap (slice_get (walk.stack ++ node ∷ [])) end ∙ get_last walk.stack node) in
-        record {
-          loop = (count, leads_more nodes count next node next leads reads);
-          done_count = is.done_count;
-          placed = is.placed;
-        }
+        (count, leads_more nodes count next node next leads reads)
   ]
 
 -- ---- the measure
@@ -259,7 +256,7 @@ module _ (nodes : List Node) (walk : Progress) (last : ℕ) (is : IsWalk nodes (
       → next < length back.seen
   pending_inside next pending back back_is =
       subst (λ (one : Progress). next < length one.seen) (sym back_is)
-      (let inside = slice_get_within walk.done next false pending.not_done in omega (arith, inside, is.done_count, is.seen_count))
+      (let inside = slice_get_within walk.done next false pending.not_marked in omega (arith, inside, is.done_count, is.seen_count))
 
   pub went_back : ((next : ℕ) → Reads nodes last next → Marked walk.done next) → (new : Progress) → new ≡ finished walk last
       → Went nodes walk last new

@@ -1,5 +1,6 @@
 pub mod Faults
 pub mod Marks
 pub mod Orders
-pub mod Reach
+pub mod Partings
+pub mod Readings
 pub mod Walks

@@ -1,5 +1,5 @@
 -- Marks on numbers, and lists of numbers.
-use Rattle.std.specs.Prelude.{◌≡◌, ◌-◌, ℕ, List, Bool, true, Some, length, slice_get}
+use Rattle.std.specs.Prelude.{◌≡◌, ◌-◌, ◌<◌, ℕ, List, Bool, true, Some, length, slice_get}
 use Rattle.std.specs.List.{count_by}
 
 abbrev pub Marked : List Bool → ℕ → Type 0
@@ -24,3 +24,8 @@ Stands list number = (place : ℕ) × (slice_get list place ≡ Some number)
 abbrev pub AreOnce : List ℕ → Type 0
 AreOnce list = (first second number : ℕ) → slice_get list first ≡ Some number → slice_get list second ≡ Some number →
     first ≡ second
+
+-- the list of numbers increases
+abbrev pub Rising : List ℕ → Type 0
+Rising list = (first second lower upper : ℕ) → slice_get list first ≡ Some lower → slice_get list second ≡ Some upper →
+    first < second → lower < upper

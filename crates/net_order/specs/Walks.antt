@@ -1,10 +1,8 @@
 -- How far nodes are placed.
-use Rattle.std.specs.Prelude.{◌≡◌, ⊤, ◌⊎◌, ◌+◌, ◌*◌, ◌<◌, ℕ, suc, List, [], ◌∷◌, ◌++◌, Bool, true, false, Some, length, replicate, slice_get, slice_set}
+use Rattle.std.specs.Prelude.{◌≡◌, ◌⊎◌, ◌+◌, ◌*◌, ◌<◌, ℕ, suc, List, [], ◌∷◌, ◌++◌, Bool, true, false, Some, length, replicate, slice_get, slice_set}
 use Rattle.flat_net.specs.declared.node.Node.{Node}
-use Rattle.net_loops.specs.Loops.{Reads, ReadsItself}
+use Rattle.net_loops.specs.Loops.{Reads}
 use Rattle.net_order.specs.Marks.{AreOnce, Marked, Stands, unmarked}
-use Rattle.net_order.specs.declared.fault.OrderFault.{OrderFault}
-use Rattle.net_order.specs.declared.fault.OrderFault.TheVariants.{Loop, Memory}
 
 pub record Progress : Type 0 where
   -- the nodes that are placed or stand on the way
@@ -61,18 +59,3 @@ pub record IsWalk (nodes : List Node) (walk : Progress) : Type 0 where
   pub once : AreOnce walk.stack
   pub way : (place node next : ℕ) → slice_get walk.stack place ≡ Some node → slice_get walk.stack (suc place) ≡ Some next →
       Reads nodes node next
-
--- the node reads the next one, which is not placed
-pub record IsPending (nodes : List Node) (done : List Bool) (node next : ℕ) : Type 0 where
-  pub reads : Reads nodes node next
-  pub not_done : slice_get done next ≡ Some false
-
--- Where a loop is found, what is placed has its places.
-pub record Found (nodes : List Node) (walk : Progress) (node : ℕ) : Type 0 where
-  pub loop : ReadsItself nodes node
-  pub done_count : length walk.done ≡ length nodes
-  pub placed : ArePlaced nodes walk.done walk.order
-
-abbrev pub HasLoop : List Node → Progress → OrderFault → Type 0
-HasLoop nodes walk (Loop node) = Found nodes walk node
-HasLoop nodes walk Memory = ⊤

@@ -4,8 +4,10 @@
 mod fault;
 mod least;
 mod ordering;
+mod parting;
+mod parts;
 mod placing;
-mod reach;
+mod reads;
 mod walk;
 
 pub use fault::OrderFault;

@@ -35,9 +35,8 @@ impl Order {
     }
 }
 
-/// An order in which the nodes can be evaluated. There is one exactly where no node reads itself, and then it takes time
-/// that grows with the number of nodes. Otherwise the least node that reads itself is looked for among those that have
-/// no place yet, one after the other, which may take a time that grows with the square of how many they are.
+/// An order in which the nodes can be evaluated. There is one exactly where no node reads itself; otherwise the least
+/// node that does is named. Takes time and memory that grow with the number of nodes, in each case.
 pub fn order_of(alloc: Global, net: &FlatNet) -> Result<Order, OrderFault>
     ensures order { IfOk result (λ order. IsOrder net.now.nodes order) }
     ensures none { OnOk result ((node : ℕ) → ReadsItself net.now.nodes node → ⊥) }
@@ -49,7 +48,7 @@ pub fn order_of(alloc: Global, net: &FlatNet) -> Result<Order, OrderFault>
             numbers: walk.into_order(),
         }),
         Err(OrderFault::Loop { node }) => Err(OrderFault::Loop {
-            node: least_loop(alloc, net, walk.done(), node)?,
+            node: least_loop(alloc, net, node)?,
         }),
         Err(OrderFault::Memory) => Err(OrderFault::Memory),
     }

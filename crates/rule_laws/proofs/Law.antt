@@ -22,6 +22,7 @@ use Rattle.design_laws.proofs.Registers.{registers_apart}
 use Rattle.elab.specs.Ports.{bad_ports_of, bad_reset, bad_setting, unless_fit}
 use Rattle.frames.specs.Numbered.{IsReady}
 use Rattle.numbering.specs.Places.{IsApart}
+use Rattle.rule_laws.specs.Names.{RulesGiveNames}
 use Rattle.rule_laws.specs.Ready.{IsReadyDesign, RulesGiveReady}
 use Rattle.rule_laws.proofs.Kept.{keeps_first, keeps_ports}
 
@@ -119,3 +120,8 @@ rules_give_ready setting kept =
     let keeps : Keeps setting = keeps_first setting kept in
     let first = top_there setting.design setting.top keeps.top in
     ready_design setting keeps first.0 first.1 (keeps_ports setting kept)
+
+pub rules_give_names : RulesGiveNames
+rules_give_names setting m kept found =
+    let keeps : Keeps setting = keeps_first setting kept in
+    names_right setting m found keeps.names m (top_placed setting m found keeps.names).reached

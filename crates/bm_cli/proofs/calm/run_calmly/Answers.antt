@@ -1,5 +1,5 @@
 use Rattle.std.proofs.Common.{Some, inl, inr, refl, ⊎_elim}
-use Rattle.bm_cli.specs.Words.{texts}
+use Rattle.bm_words.specs.Words.{texts}
 use Rattle.bm_cli.proofs.CalmLemmas.{no_read_fault, no_write_fault, only_memory}
 use Rattle.bm_cli.proofs.calm.run_calmly.Goals as goal
 

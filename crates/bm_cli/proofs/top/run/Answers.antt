@@ -1,10 +1,9 @@
 use Rattle.std.proofs.Common.{◌≡◌, subst}
-use Rattle.bm_cli.specs.Asked.{command_of}
+use Rattle.bm_words.specs.Asked.{command_of}
+use Rattle.bm_words.specs.Words.{Command, check, minimise, texts}
 use Rattle.bm_cli.specs.Keeps.{Keeps}
 use Rattle.bm_cli.specs.Outside.{Outside, outside}
-use Rattle.bm_cli.specs.Words.{Command, check, minimise, texts}
 use Rattle.bm_cli.proofs.KeepsLemmas.{done_kept, each_has_one, kept, yes_kept}
-use Rattle.bm_cli.proofs.WordLemmas.{one_command}
 use Rattle.bm_cli.proofs.top.run.Goals as goal
 
 pub returns-clause-keeps : goal.returns-clause-keeps
@@ -12,7 +11,7 @@ returns-clause-keeps g c = λ command asks.
     let before : Outside = outside (g.F.Shelf.held c.args.shelf.now) (g.F.Shelf.reads c.args.shelf.now) (g.F.Shelf.writes c.args.shelf.now) (g.S.Sink.taken c.args.out.now) (g.S.Sink.faults c.args.out.now) in
     let after : Outside = outside (g.F.Shelf.held c.carry_out-outcome.new.shelf) (g.F.Shelf.reads c.carry_out-outcome.new.shelf) (g.F.Shelf.writes c.carry_out-outcome.new.shelf) (g.S.Sink.taken c.finish.new.out) (g.S.Sink.faults c.finish.new.out) in
     let asked : Command = command_of c.in-Some.asked in
-    let same : asked ≡ command = one_command (texts c.args.words.now) asked command c.in-Some.ensures.asked.form asks.form in
+    let same : asked ≡ command = c.one_command.ensures (texts c.args.words.now) asked command c.in-Some.ensures.asked.form asks.form in
     subst (λ command. Keeps command before c.finish.result after) same
     (kept asked before c.finish.result after (each_has_one c.minimise_has_one_status.ensures c.check_has_one_status.ensures asked)
     c.carry_out-outcome.result c.carry_out-outcome.ensures.ends c.finish.ensures c.carry_out-outcome.ensures.reads c.carry_out-outcome.ensures.writes)

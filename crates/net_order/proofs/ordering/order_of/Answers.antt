@@ -1,10 +1,8 @@
 use Rattle.std.proofs.Common.{ap, subst, sym, length, List}
 use Rattle.flat_net.specs.declared.node.Node.{Node}
 use Rattle.net_order.specs.Orders.{IsOrder}
-use Rattle.net_order.specs.Reach.{AreClear}
-use Rattle.net_order.specs.Walks.{Found, IsWalk}
+use Rattle.net_order.specs.Walks.{IsWalk}
 use Rattle.net_order.proofs.OrderLemmas.{none_reads_itself, ordered}
-use Rattle.net_order.proofs.ReachLemmas.{placed_clear}
 use Rattle.net_order.proofs.WalkLemmas.{fresh_walk}
 use Rattle.net_order.proofs.ordering.order_of.Goals as goal
 
@@ -21,10 +19,3 @@ returns-in-Ok-clause-order c =
 pub returns-in-Ok-clause-none : goal.returns-in-Ok-clause-none
 returns-in-Ok-clause-none c =
     none_reads_itself c.args.net.now.nodes c.place_all.new.walk c.in-Ok.ensures.walk c.in-Ok.ensures.rest c.in-Ok.ensures.all
-
-pub least_loop-requires-clause-clear : goal.least_loop-requires-clause-clear
-least_loop-requires-clause-clear c =
-    let found : Found c.args.net.now.nodes c.place_all.new.walk c.in-Err-Loop.node =
-    rw c.in-Err-Loop.field-0-is at c.in-Err-Loop.ensures.found in
-    subst (λ done. AreClear c.args.net.now.nodes done) (sym c.done.ensures)
-    (placed_clear c.args.net.now.nodes c.place_all.new.walk.done c.place_all.new.walk.order found.placed)

@@ -5,7 +5,7 @@ use Rattle.net_order.proofs.placing.go_on.Goals as goal
 pub returns-then-is_seen-clause-found : goal.returns-then-is_seen-clause-found
 returns-then-is_seen-clause-found c =
     loop_found c.args.net.now.nodes c.args.walk.now c.args.last c.args.next c.requires.walk c.requires.pending.reads
-    c.requires.pending.not_done
+    c.requires.pending.not_marked
     (c.is_seen.ensures ∙ ap Some c.if-is_seen.true)
 
 pub begin-requires : goal.begin-requires

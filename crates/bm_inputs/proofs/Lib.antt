@@ -1,0 +1,3 @@
+mod ExclusionLemmas
+mod ReadLemmas
+pub mod ReadingLemmas

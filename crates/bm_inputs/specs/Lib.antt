@@ -1,0 +1,6 @@
+pub mod Counts
+pub mod Files
+pub mod Laws
+pub mod Lines
+pub mod Reading
+pub mod Waveforms

@@ -1,0 +1,4 @@
+mod CommandLemmas
+mod CutLemmas
+mod ListLemmas
+mod OptionLemmas

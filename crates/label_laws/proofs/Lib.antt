@@ -1,0 +1,7 @@
+mod DeclarationLemmas
+mod GrammarLemmas
+mod Law
+mod NameLemmas
+mod PortLemmas
+mod RowLemmas
+mod TokenLemmas

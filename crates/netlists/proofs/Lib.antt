@@ -1,0 +1,3 @@
+pub mod FaultLemmas
+mod PlannedLemmas
+pub mod ReadLemmas

@@ -1,0 +1,4 @@
+pub mod Faults
+pub mod Netlists
+pub mod Reading
+pub mod Stops
