@@ -28,7 +28,10 @@ INPUTS = [(f"a{i}", None) for i in range(4)]
 MEMORY = 40
 
 # The netlists' nodes, and the two numbers of cycles that each is simulated for.
-SIZES = {1_000: (20_000, 120_000), 100_000: (200, 1_200)}
+SIZES = {1_000: (20_000, 120_000), 100_000: (200, 10_200)}
+
+# The same for `vvp`, which is slow.
+VVP_SIZES = {1_000: (2_000, 12_000), 100_000: (5, 25)}
 
 # The numbers of cycles that are minimised, and the number of the stimulus.
 CYCLES = [500, 1000, 2000]
@@ -233,6 +236,10 @@ def slope(short, long, lengths):
     return (lengths[1] - lengths[0]) / max(long - short, 1e-9)
 
 
+def shown(rate):
+    return f"{rate:,.0f}" if rate >= 10 else f"{rate:.2g}"
+
+
 def simulated(asked, nodes, folder):
     """The cells of a row of the first table."""
     lengths = SIZES[nodes]
@@ -248,12 +255,16 @@ def simulated(asked, nodes, folder):
         for each in ("n.v", "reading.v"):
             command = minimise(asked.program.resolve(), each, "s.vcd", "top")
             seconds[each].append(least(command, folder, asked.runs, (1, "no violation\n")))
-        seconds["vvp"].append(least(["vvp", "-n", "bench.out"], folder, 1, (0, "none\n")))
         if verilated:
             seconds["verilator"].append(least(["obj_dir/Vtop"], folder, asked.runs, (0, "none\n")))
+    for cycles in VVP_SIZES[nodes]:
+        put_rows(folder, INPUTS, random_rows(cycles))
+        seconds["vvp"].append(least(["vvp", "-n", "bench.out"], folder, 1, (0, "none\n")))
     whole = [a - b for a, b in zip(seconds["n.v"], seconds["reading.v"])]
     rate = slope(*whole, lengths)
-    others = [f"{slope(*seconds[each], lengths):,.0f}" if seconds[each] else "" for each in ("vvp", "verilator")]
+    by_vvp = slope(*seconds["vvp"], VVP_SIZES[nodes])
+    by_verilator = slope(*seconds["verilator"], lengths) if verilated else None
+    others = [shown(by_vvp), shown(by_verilator) if by_verilator else ""]
     return [f"{nodes:,}", f"{lengths[0]:,} and {lengths[1]:,}", f"{rate * nodes:,.0f}", f"{rate:,.0f}", *others]
 
 
